@@ -2,7 +2,6 @@
 
 mod fast;
 mod intervals;
-mod kinds;
 mod loose;
 mod partial;
 mod syntax;
@@ -11,7 +10,7 @@ mod words;
 
 pub use crate::readers::fast::range_fast;
 pub(crate) use crate::readers::fast::{Alone, InLines, Place, read_common, read_front};
-pub(crate) use crate::readers::kinds::ignored_front;
+pub(crate) use crate::readers::intervals::word_front;
 pub(crate) use crate::readers::loose::read_any;
 pub use crate::readers::loose::{is_blank, range_loose};
 pub use semver_core::readers::{version_fast, version_loose};

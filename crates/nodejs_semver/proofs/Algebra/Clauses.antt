@@ -117,6 +117,9 @@ several xs h n = grind arith
 pub all_intervals : (n : ℕ) (ss : List (Span VersionValue)) → list_all (is_range_span n) ss ≡ true → list_all (is_interval precedence) ss ≡ true
 all_intervals n = all_weaker (is_range_span n) (is_interval precedence) (λ s h. first_so _ _ h)
 
+pub ordered_intervals : (ss range : List (Span VersionValue)) → ss ≡ range → IsRange MAX_SAFE_INTEGER range → list_all (is_interval precedence) ss ≡ true
+ordered_intervals ss range e h = ap (list_all (is_interval precedence)) e ∙ all_intervals (MAX_SAFE_INTEGER + 1) range h.each
+
 -- the lists of two ranges make intervals of a range, whatever holds their versions
 module _ {V : Type 0} (R : V → V → Ordering) (value : V → VersionValue)
     (ordered : (v w : V) → R v w ≡ precedence (value v) (value w))

@@ -79,6 +79,11 @@ pub part_over : (l : Unread) (o : Option (List ℕ)) → length l.part.now ≡ 0
     → left_list l ≡ ignored_behind MAX_SAFE_INTEGER l.end o
 part_over l o none e = grind (arith, ignored_nil)
 
+-- of the word that was read
+pub kind-of : (limit : ℕ) (text : List ℕ) (read : Read) → read ≡ read_at limit text
+    → ◌≡◌ {A = Kind} (read.0.1, read.1) (kind_at limit text)
+kind-of limit text read e = ap (λ (r : Read). (r.0.1, r.1)) e
+
 -- one word was read
 pub word_read : (limit place : ℕ) (part rest next : List ℕ) (kind : Option IgnoredKind) (word : Option IgnoredWord)
     (others : List IgnoredWord)

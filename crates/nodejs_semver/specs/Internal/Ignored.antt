@@ -27,9 +27,6 @@ read_at limit text = ((table limit (word_at limit text).0, ignored_as limit (wor
 abbrev pub word_view : Result (Span VersionValue) IgnoredKind × Bor (List ℕ) → (Option (Span VersionValue) × Option IgnoredKind) × List ℕ
 word_view read = ((result_ok read.0, result_err read.0), read.1.now)
 
-abbrev pub kind_view : Option IgnoredKind × Bor (List ℕ) → Option IgnoredKind × List ℕ
-kind_view read = (read.0, read.1.now)
-
 -- the ignored words of a part that ends at a place, which has at most so many words
 unfoldable pub ignored_within : ℕ → ℕ → ℕ → List ℕ → List IgnoredWord
 ignored_within limit place zero text = []

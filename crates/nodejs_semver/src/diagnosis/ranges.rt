@@ -1,12 +1,12 @@
 // The words of a range text that mean nothing.
 
 ghost use Rattle.std.specs.Prelude.{◌++◌, ◌+◌, ◌-◌, ◌<◌, ◌↔◌, ◌≡◌, ◌≤◌};
-ghost use Rattle.nodejs_semver.specs.Words.{[], AreIgnored, if_ignored, ignored_behind, length};
-ghost use Rattle.nodejs_semver.specs.Words.{IsWhollyBounded, item_count, left_list, left_size};
+ghost use Rattle.nodejs_semver.specs.Words.{[], AreIgnored, ignored_behind, IsWhollyBounded};
+ghost use Rattle.nodejs_semver.specs.Words.{item_count, left_list, left_size, length};
 ghost use Rattle.nodejs_semver.specs.Words.{MAX_SAFE_INTEGER, option_list, Some, YieldsFirst};
 
 use crate::diagnosis::unread::Unread;
-use crate::readers::{cut_part, ignored_front, skip_spaces};
+use crate::readers::{cut_part, skip_spaces, word_front};
 use semver_core::scan;
 use std::marker::Model;
 
@@ -64,26 +64,16 @@ fn before_words(text: &str, end: usize) -> Unread<'_>
     }
 }
 
-// The word between two places, if it is ignored.
-fn if_ignored(kind: Option<IgnoredKind>, start: usize, end: usize) -> Option<IgnoredWord>
-    ensures { option_list result ≡ if_ignored kind start end }
-{
-    match kind {
-        Some(kind) => Some(IgnoredWord { start, end, kind }),
-        None => None,
-    }
-}
-
 // Reads the word at the front: returns it if it is ignored, and what is then left.
 fn read_word(left: Unread<'_>) -> (Option<IgnoredWord>, Unread<'_>)
     requires { 0 < length left.part.now }
     ensures same { left_list left.entry ≡ option_list result.0 ++ left_list result.1 }
     ensures less { left_size result.1 < left_size left.entry }
 {
-    let (kind, rest) = ignored_front(left.part);
+    let (word, rest) = word_front(left.part);
     let start = left.part_end - left.part.len();
     let end = left.part_end - rest.len();
-    let word = if_ignored(kind, start, end);
+    let word = word.err().map(|kind| IgnoredWord { start, end, kind });
     let rest = Unread {
         part: skip_spaces(rest),
         part_end: left.part_end,
@@ -91,27 +81,6 @@ fn read_word(left: Unread<'_>) -> (Option<IgnoredWord>, Unread<'_>)
         end: left.end,
     };
     (word, rest)
-}
-
-// Reads up to the first word that is ignored: returns it if there is one, and what is then left.
-fn first_ignored(left: Unread<'_>) -> (Option<IgnoredWord>, Unread<'_>)
-    ensures { YieldsFirst left_list left.entry result.0 result.1 }
-{
-    let mut left = left;
-    'words: loop {
-        if left.part.is_empty() {
-            let Some(behind) = left.behind else {
-                return (None, left);
-            };
-            left = before_words(behind, left.end);
-        } else {
-            let (word, rest) = read_word(left);
-            if word.is_some() {
-                return (word, rest);
-            }
-            left = rest;
-        }
-    }
 }
 
 /// Each ignored word once, from the left. It takes no memory.
@@ -122,10 +91,20 @@ impl<'a> Iterator for IgnoredWords<'a> {
 
     ghost remaining = { item_count (λ words. words) };
 
+    #[tactic(auto, using(crate::proofs::Diagnosing::IgnoredParts::part_over))]
     fn next(&mut self) -> Option<IgnoredWord> {
-        let (word, left) = first_ignored(self.left);
-        self.left = left;
-        word
+        'words: loop {
+            if self.left.part.is_empty() {
+                let behind = self.left.behind?;
+                self.left = before_words(behind, self.left.end);
+            } else {
+                let (word, rest) = read_word(self.left);
+                self.left = rest;
+                if word.is_some() {
+                    return word;
+                }
+            }
+        }
     }
 }
 

@@ -153,6 +153,7 @@ impl Range {
     /// cuts: `>=1.2.3` allows all of `0.1 || 1.4`. This is not a subset test. For that, see
     /// `least_beyond`: `other.least_beyond(alloc, self)` is `None` exactly where this range accepts
     /// every version that the other accepts.
+    #[tactic(auto, using(crate::proofs::Algebra::Clauses::ordered_intervals))]
     pub fn allows_all(&self, other: &Range) -> bool
         ensures { result ≡ covers_one self.now other.now }
     {
@@ -161,6 +162,7 @@ impl Range {
 
     /// Whether some interval of this range meets some interval of the other: whether `intersect`
     /// returns a range.
+    #[tactic(auto, using(crate::proofs::Algebra::Clauses::ordered_intervals))]
     pub fn allows_any(&self, other: &Range) -> bool
         ensures { result ≡ is_some (intersection self.now other.now) }
     {
@@ -171,6 +173,7 @@ impl Range {
 impl<'a> RangeRef<'a> {
     /// Whether some one interval of this range covers some one interval of the other, as
     /// `Range::allows_all` says.
+    #[tactic(auto, using(crate::proofs::Algebra::Clauses::ordered_intervals))]
     pub fn allows_all(&self, other: &RangeRef<'_>) -> bool
         ensures { result ≡ covers_one self.now other.now }
     {
@@ -179,6 +182,7 @@ impl<'a> RangeRef<'a> {
 
     /// Whether some interval of this range meets some interval of the other, as `Range::allows_any`
     /// says.
+    #[tactic(auto, using(crate::proofs::Algebra::Clauses::ordered_intervals))]
     pub fn allows_any(&self, other: &RangeRef<'_>) -> bool
         ensures { result ≡ is_some (intersection self.now other.now) }
     {

@@ -117,31 +117,11 @@ impl<'a> RangeRef<'a> {
             IsTrue (accepts range v true) ↔ Writes MAX_SAFE_INTEGER text.now v) }
     {
         let mut intervals = SmallVec::new(alloc);
-        read_text(text, &mut intervals)?;
-        Ok(RangeOf { intervals })
-    }
-
-    // `RangeReader::read_field` in place of this range. Where there is an error, the range has one
-    // interval without bounds.
-    #[inline(always)]
-    #[tactic(auto, using(crate::proofs::Values::spans_same))]
-    fn read_field(&mut self, text: &'a str) -> (Result<(), Failure<SemverError>>, usize)
-        ensures place { result.1 ≤ length text.now }
-        ensures plain { list_any (λ b. b == 59 || b == 10) (take result.1 text.now) ≡ false }
-        ensures ends { ends_field (drop result.1 text.now) ≡ true }
-        ensures ok { OnOk result.0 (Means MAX_SAFE_INTEGER (take result.1 text.now) self.new) }
-        ensures some { 0 < length self.new }
-        ensures refused { RefusedOnlyIf result.0
-            (Means MAX_SAFE_INTEGER (take result.1 text.now) []) }
-        ensures memory { MemoryOnlyIf result.0 ((r : List (Span VersionValue)) →
-            Means MAX_SAFE_INTEGER (take result.1 text.now) r → 1 < length r) }
-    {
-        if let Some(end) = read_parts::<InLines>(text.as_bytes(), &mut self.intervals) {
-            if ends_field(text.as_bytes(), end) {
-                return (Ok(()), end);
-            }
+        let end = read_parts::<Alone>(text.as_bytes(), &mut intervals);
+        if end != Some(text.len()) {
+            read_loose(text, true, &mut intervals)?;
         }
-        read_whole_field(text, &mut self.intervals)
+        Ok(RangeOf { intervals })
     }
 }
 
@@ -187,9 +167,17 @@ impl<'a> RangeReader<'a> {
         ensures memory { MemoryOnlyIf result.0 ((r : List (Span VersionValue)) →
             Means MAX_SAFE_INTEGER (take result.1 text.now) r → 1 < length r) }
     {
-        match self.range.read_field(text) {
-            (Ok(()), end) => (Ok(&self.range), end),
-            (Err(error), end) => (Err(error), end),
+        let bytes = text.as_bytes();
+        if let Some(end) = read_parts::<InLines>(bytes, &mut self.range.intervals) {
+            if matches!(&bytes[end..], [] | [b';' | b'\n', ..]) {
+                return (Ok(&self.range), end);
+            }
+        }
+        let (read, end) = read_whole_field(text, &mut self.range.intervals);
+        let range = &self.range;
+        match read {
+            Ok(()) => (Ok(range), end),
+            Err(error) => (Err(error), end),
         }
     }
 }
@@ -212,33 +200,6 @@ fn read_parts<'a, P: Place>(text: &'a [u8], found: &mut Intervals<VersionRef<'a>
     }
 }
 
-// Reads the intervals of a text, one or more, in place of what the list holds.
-#[inline(always)]
-fn read_text<'a>(
-    text: &'a str,
-    found: &mut Intervals<VersionRef<'a>>,
-) -> Result<(), Failure<SemverError>>
-    ensures ok { OnOk result (Means MAX_SAFE_INTEGER text.now found.new.items) }
-    ensures range { OnOk result (IsRange MAX_SAFE_INTEGER found.new.items) }
-    ensures refused { RefusedOnlyIf result (Means MAX_SAFE_INTEGER text.now []) }
-    ensures memory { MemoryOnlyIf result ((r : List (Span VersionValue)) →
-        Means MAX_SAFE_INTEGER text.now r → 1 < length r) }
-{
-    match read_parts::<Alone>(text.as_bytes(), found) {
-        Some(end) if end == text.len() => Ok(()),
-        _ => read_loose(text, true, found),
-    }
-}
-
-// Whether a field ends at a place.
-#[inline(always)]
-fn ends_field(text: &[u8], end: usize) -> bool
-    requires { end ≤ length text.now }
-    ensures { result ≡ ends_field (drop end text.now) }
-{
-    matches!(&text[end..], [] | [b';' | b'\n', ..])
-}
-
 // Where a field ends, and whether bars may stand in it. One search finds both for most fields.
 #[inline(always)]
 fn field_end(text: &[u8]) -> (usize, bool)
@@ -254,7 +215,8 @@ fn field_end(text: &[u8]) -> (usize, bool)
     (memchr2(b';', b'\n', text).unwrap_or(text.len()), true)
 }
 
-// `RangeReader::read_field` where the end of the field is looked for first.
+// `RangeReader::read_field` in place of what the list holds, where the end of the field is looked
+// for first. Where there is an error, the list has one interval without bounds.
 #[cold]
 #[inline(never)]
 fn read_whole_field<'a>(
@@ -281,7 +243,8 @@ fn read_whole_field<'a>(
     (read, end)
 }
 
-// `read_text` where the text may have any form, but bars only where it is `barred`.
+// Reads the intervals of a text of any form, one or more, in place of what the list holds. It has
+// bars only where it is `barred`.
 #[inline(always)]
 fn read_loose<'a>(
     text: &'a str,

@@ -3,13 +3,12 @@
 ghost use Rattle.std.specs.Prelude.{◌++◌, ◌<◌, ◌∷◌, ◌≡◌, IfOk, length, List};
 ghost use Rattle.nodejs_semver.specs.Words.{bounds_view, interval, is_interval};
 ghost use Rattle.nodejs_semver.specs.Words.{joined_from, MAX_SAFE_INTEGER, next_at, next_view};
-ghost use Rattle.nodejs_semver.specs.Words.{OnErr, OnOk, part_bounds, part_intervals, partial_view};
-ghost use Rattle.nodejs_semver.specs.Words.{precedence, read_at, sign_view, signed_word, space_len};
-ghost use Rattle.nodejs_semver.specs.Words.{Span, table, true, VersionValue, word_view};
+ghost use Rattle.nodejs_semver.specs.Words.{OnErr, OnOk, part_bounds, part_intervals, precedence};
+ghost use Rattle.nodejs_semver.specs.Words.{read_at, space_len, Span, true, VersionValue};
+ghost use Rattle.nodejs_semver.specs.Words.{word_view};
 
 use crate::Allocated;
 use crate::diagnosis::IgnoredKind;
-use crate::readers::syntax::{Partial, Sign};
 use crate::readers::{partial, table, words};
 use semver_core::VersionRef;
 use semver_core::cuts::Interval;
@@ -31,19 +30,6 @@ pub(crate) fn ordered(bounds: Bounds<'_>) -> Interval<VersionRef<'_>>
     Interval::of_ordered(bounds.lower, bounds.upper)
 }
 
-// The interval of a word of one partial, if it has one.
-#[inline(always)]
-#[tactic(auto, using(crate::proofs::Bounds::TableReadings::settled))]
-fn signed<'a>(sign: Sign, partial: &Partial<'a>) -> Option<Interval<VersionRef<'a>>>
-    ensures { result ≡ table MAX_SAFE_INTEGER
-        (signed_word (sign_view sign) (partial_view partial.now)) }
-{
-    match table::signed(sign, partial) {
-        Some(bounds) => Some(ordered(bounds)),
-        None => None,
-    }
-}
-
 /// The interval of the word at the front, or why the word is ignored, and the text behind the word.
 #[inline(always)]
 pub(crate) fn word_front(text: &[u8]) -> (Result<Interval<VersionRef<'_>>, IgnoredKind>, &[u8])
@@ -60,10 +46,10 @@ pub(crate) fn word_front(text: &[u8]) -> (Result<Interval<VersionRef<'_>>, Ignor
     if !is_boundary(rest) {
         return (Err(IgnoredKind::Malformed), skip_to_boundary(text));
     }
-    (
-        signed(sign, &partial).ok_or(IgnoredKind::WithoutBounds),
-        rest,
-    )
+    match table::signed(sign, &partial) {
+        Some(bounds) => (Ok(ordered(bounds)), rest),
+        None => (Err(IgnoredKind::WithoutBounds), rest),
+    }
 }
 
 // The interval of the word at the front, where it has one, and the text behind the word and its
@@ -74,14 +60,6 @@ fn next_interval(text: &[u8]) -> (Option<Interval<VersionRef<'_>>>, &[u8])
 {
     let (word, rest) = word_front(text);
     (word.ok(), skip_spaces(rest))
-}
-
-// `next_interval` of a word that is not the first one of its part.
-#[inline(never)]
-fn later_interval(text: &[u8]) -> (Option<Interval<VersionRef<'_>>>, &[u8])
-    ensures { next_view result.0 result.1 ≡ next_at MAX_SAFE_INTEGER text.now }
-{
-    next_interval(text)
 }
 
 // The running interval with one more: the intersection of both, or the next one alone, and then the
@@ -144,7 +122,7 @@ fn read_words<'a>(
     let mut running = first;
     let mut rest = text;
     'words: while !rest.is_empty() {
-        let (next, after) = later_interval(rest);
+        let (next, after) = next_interval(rest);
         rest = after;
         if let Some(next) = next {
             running = meet_or_finish(running, next, found)?;

@@ -20,6 +20,7 @@ use std::alloc::{AllocError, Global};
 /// Whether a range text is blank: each part between `||` is empty or whitespace alone, as in ` `,
 /// `||` and ` || `. Such a text names the range without bounds, `Range::any`; `range_loose` reads
 /// every other text.
+#[tactic(auto, using(crate::proofs::Dividing::MeaningLaw::blank_text))]
 pub fn is_blank(text: &str) -> bool
     ensures { IsTrue result ↔ IsBlankText text.now }
 {

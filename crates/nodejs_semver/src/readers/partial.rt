@@ -38,30 +38,6 @@ pub(crate) fn qualified<'a>(
     )
 }
 
-// The partial at the front whose major and minor components were read.
-#[inline(always)]
-#[tactic(auto, using(semver_core::proofs::Reading::IdentifierLists::short_lists))]
-fn patch_front(major: Option<u64>, minor: Option<u64>, text: &[u8]) -> (Partial<'_>, &[u8])
-    requires major_small { ForSome major (λ n. n ≤ MAX_SAFE_INTEGER) }
-    requires minor_small { ForSome minor (λ n. n ≤ MAX_SAFE_INTEGER) }
-    ensures { partial_pair_view result
-        ≡ Spec.patch_front major minor text.now (Spec.dotted_front MAX_SAFE_INTEGER text.now) }
-{
-    let Some((patch, rest)) = dotted_front(text) else {
-        return (
-            Partial {
-                major,
-                minor,
-                patch: None,
-                pre_release: b"",
-                build: b"",
-            },
-            text,
-        );
-    };
-    qualified(major, minor, patch, rest)
-}
-
 /// The partial at the front whose major component was read.
 #[inline(always)]
 #[tactic(auto, using(semver_core::proofs::Reading::IdentifierLists::short_lists))]
@@ -70,18 +46,20 @@ pub(crate) fn minor_front(major: Option<u64>, text: &[u8]) -> (Partial<'_>, &[u8
     ensures { partial_pair_view result ≡ Spec.minor_front MAX_SAFE_INTEGER major text.now
         (Spec.dotted_front MAX_SAFE_INTEGER text.now) }
 {
-    match dotted_front(text) {
-        Some((minor, rest)) => patch_front(major, minor, rest),
-        None => (
-            Partial {
-                major,
-                minor: None,
-                patch: None,
-                pre_release: b"",
-                build: b"",
-            },
-            text,
-        ),
+    let mut read = Partial {
+        major,
+        minor: None,
+        patch: None,
+        pre_release: b"",
+        build: b"",
+    };
+    let Some((minor, behind)) = dotted_front(text) else {
+        return (read, text);
+    };
+    read.minor = minor;
+    match dotted_front(behind) {
+        Some((patch, rest)) => qualified(major, minor, patch, rest),
+        None => (read, behind),
     }
 }
 

@@ -25,39 +25,6 @@ fn version_of<'a>(partial: &Partial<'a>) -> VersionRef<'a>
     )
 }
 
-// The version of a partial, without its build.
-#[inline(always)]
-#[tactic(auto, using(semver_core::proofs::Reading::IdentifierLists::short_lists))]
-fn version_without_build<'a>(partial: &Partial<'a>) -> VersionRef<'a>
-    ensures { result ≡ Spec.without_build (Spec.version_of (partial_view partial.now)) }
-{
-    VersionRef::from_texts(
-        partial.major.unwrap_or(0),
-        partial.minor.unwrap_or(0),
-        partial.patch.unwrap_or(0),
-        partial.pre_release,
-        b"",
-    )
-}
-
-// `=1.2.3`
-#[inline(always)]
-#[tactic(auto, unfolding(crate::specs::Text::Table::table))]
-fn equal<'a>(partial: &Partial<'a>) -> Option<Bounds<'a>>
-    ensures { table_view result
-        ≡ table MAX_SAFE_INTEGER (Words.compare Words.equal (partial_view partial.now)) }
-{
-    match (partial.major, partial.minor, partial.patch) {
-        (Some(_), Some(_), Some(_)) => {
-            let unbuilt = version_without_build(partial);
-            Some(Bounds::through(unbuilt.copy(), unbuilt))
-        }
-        (Some(major), Some(minor), None) => Some(Bounds::whole_minor(major, minor)),
-        (Some(major), None, _) => Some(Bounds::whole_major(major)),
-        (None, _, _) => None,
-    }
-}
-
 /// `1.2.3`
 #[inline(always)]
 #[tactic(auto, unfolding(crate::specs::Text::Table::table))]
@@ -84,7 +51,7 @@ pub(crate) fn tilde<'a>(greater: bool, partial: &Partial<'a>) -> Option<Bounds<'
         (Some(major), None, _) => Some(Bounds::whole_major(major)),
         (Some(major), Some(minor), None) if !greater => Some(Bounds::whole_minor(major, minor)),
         (Some(major), Some(minor), _) => {
-            let version = version_without_build(partial);
+            let version = version_of(partial).without_build();
             Some(Bounds::between(version, lowest(major, minor + 1, 0)))
         }
         (None, _, _) => None,
@@ -107,7 +74,7 @@ pub(crate) fn caret<'a>(partial: &Partial<'a>) -> Option<Bounds<'a>>
             _ => Some(Bounds::between(release(major, minor, 0), lowest(major + 1, 0, 0))),
         },
         (Some(major), Some(minor), Some(patch)) => {
-            let version = version_without_build(partial);
+            let version = version_of(partial).without_build();
             match (major, minor) {
                 (0, 0) => Some(Bounds::between(version, lowest(0, 0, patch + 1))),
                 (0, _) => Some(Bounds::between(version, lowest(0, minor + 1, 0))),
@@ -151,7 +118,13 @@ pub(crate) fn compare<'a>(comparator: Comparator, partial: &Partial<'a>) -> Opti
             (Some(major), None, None) => Some(Bounds::at_least(release(major + 1, 0, 0))),
             _ => Some(Bounds::above(version_of(partial))),
         },
-        Comparator::Equal => equal(partial),
+        // As the partial alone, where it has a number, and without the build.
+        Comparator::Equal => {
+            partial.major?;
+            let mut unbuilt = *partial;
+            unbuilt.build = b"";
+            plain(&unbuilt)
+        }
         Comparator::AtMost => {
             let major = partial.major.unwrap_or(0);
             match (partial.minor, partial.patch) {

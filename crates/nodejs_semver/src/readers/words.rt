@@ -32,6 +32,7 @@ fn upper_behind(text: &[u8]) -> Option<(Partial<'_>, &[u8])>
 /// The second partial of the hyphen word that begins with a partial of this sign, if there is such
 /// a word, and what follows it. Mostly the part ends behind the partial.
 #[inline(always)]
+#[tactic(auto, using(crate::proofs::Reading::WordLaw::upper_none))]
 pub(crate) fn upper_of<'a>(sign: Sign, rest: &'a [u8]) -> Option<(Partial<'a>, &'a [u8])>
     ensures { partial_front_view result ≡ upper_of MAX_SAFE_INTEGER (sign_view sign) rest.now }
 {

@@ -5,32 +5,32 @@ use Rattle.nodejs_semver.proofs.readers.intervals.read_words.Goals as goal
 
 pub words-smaller-in-Some : goal.words-smaller-in-Some
 words-smaller-in-Some c =
-    read-shorter MAX_SAFE_INTEGER c.words.rest.now c.later_interval-next.result.1.now c.later_interval-next.result.0 (grind arith) c.words.invariant.starts c.later_interval-next.ensures
+    read-shorter MAX_SAFE_INTEGER c.words.rest.now c.next_interval-next.result.1.now c.next_interval-next.result.0 (grind arith) c.words.invariant.starts c.next_interval-next.ensures
 
 pub words-smaller : goal.words-smaller
 words-smaller c =
-    read-shorter MAX_SAFE_INTEGER c.words.rest.now c.later_interval-next.result.1.now c.later_interval-next.result.0 (grind arith) c.words.invariant.starts c.later_interval-next.ensures
+    read-shorter MAX_SAFE_INTEGER c.words.rest.now c.next_interval-next.result.1.now c.next_interval-next.result.0 (grind arith) c.words.invariant.starts c.next_interval-next.ensures
 
 pub words-preserved-in-Some : goal.words-preserved-in-Some
 words-preserved-in-Some c =
     let rest = c.words.rest.now in
-    let after = c.later_interval-next.result.1.now in
-    let read = read-is MAX_SAFE_INTEGER rest after c.later_interval-next.result.0 (Some c.in-Some.next) (sym c.in-Some.is) c.later_interval-next.ensures in
+    let after = c.next_interval-next.result.1.now in
+    let read = read-is MAX_SAFE_INTEGER rest after c.next_interval-next.result.0 (Some c.in-Some.next) (sym c.in-Some.is) c.next_interval-next.ensures in
     let bounds = bounds-step MAX_SAFE_INTEGER rest after (Some c.in-Some.next) (grind arith) c.words.invariant.starts read in
     record {
       whole = cc (c.in_ok-running.ensures.joined (part_bounds MAX_SAFE_INTEGER after), bounds, c.words.invariant.whole);
-      starts = read-starts MAX_SAFE_INTEGER rest after c.later_interval-next.result.0 c.later_interval-next.ensures;
+      starts = read-starts MAX_SAFE_INTEGER rest after c.next_interval-next.result.0 c.next_interval-next.ensures;
     }
 
 pub words-preserved : goal.words-preserved
 words-preserved c =
     let rest = c.words.rest.now in
-    let after = c.later_interval-next.result.1.now in
-    let read = read-is MAX_SAFE_INTEGER rest after c.later_interval-next.result.0 None (sym c.in_default.is) c.later_interval-next.ensures in
+    let after = c.next_interval-next.result.1.now in
+    let read = read-is MAX_SAFE_INTEGER rest after c.next_interval-next.result.0 None (sym c.in_default.is) c.next_interval-next.ensures in
     let bounds = bounds-step MAX_SAFE_INTEGER rest after None (grind arith) c.words.invariant.starts read in
     record {
       whole = cc (bounds, c.words.invariant.whole);
-      starts = read-starts MAX_SAFE_INTEGER rest after c.later_interval-next.result.0 c.later_interval-next.ensures;
+      starts = read-starts MAX_SAFE_INTEGER rest after c.next_interval-next.result.0 c.next_interval-next.ensures;
     }
 
 pub returns-clause-added : goal.returns-clause-added

@@ -1,6 +1,7 @@
-use Rattle.nodejs_semver.proofs.Common.{◌≡◌, ap, true, false, rules, ◌∙◌, sym, refl, hyphen, MAX_SAFE_INTEGER, from_boundary, is_boundary}
+use Rattle.nodejs_semver.proofs.Common.{◌≡◌, None, Some, ap, true, false, rules, ◌∙◌, sym, refl, hyphen, MAX_SAFE_INTEGER, from_boundary, is_boundary}
 use Rattle.nodejs_semver.proofs.{Reading.WordLaw.{word-as}, Diagnosing.IgnoredParts.{read-formed, read-malformed, signed-formed}}
-use Rattle.nodejs_semver.specs.{Internal.Readings.{partial_front_view, partial_view, sign_view}, Internal.Words.{signed_word}}
+use Rattle.nodejs_semver.proofs.Bounds.TableReadings.{settled}
+use Rattle.nodejs_semver.specs.Internal.{Readings.{partial_front_view, partial_view, sign_view, table_view}, Words.{signed_word}}
 use Rattle.nodejs_semver.proofs.readers.intervals.word_front.Goals as goal
 
 pub returns-in_default : goal.returns-in_default
@@ -26,13 +27,27 @@ returns-then-not-is_boundary c =
     ∙ rw (ap partial_front_view c.in-Some.is, sym c.upper_of.ensures, ap partial_front_view c.in_default-upper_of.is, goes) refl)
     c.skip_to_boundary-then-not-is_boundary.ensures
 
-pub returns : goal.returns
-returns c =
+pub ordered-requires : goal.ordered-requires
+ordered-requires c =
+    let word = signed_word (sign_view c.sign_front-sign.result.0) (partial_view c.in-Some.partial) in
+    settled MAX_SAFE_INTEGER word c.in-Some-signed.bounds (ap table_view (sym c.in-Some-signed.is) ∙ c.signed.ensures)
+
+pub returns-in-Some-signed : goal.returns-in-Some-signed
+returns-in-Some-signed c =
     let text = c.args.text.now in
     let ends : is_boundary c.in-Some.rest.now ≡ true = search rules in
-    let sign = sign_view c.sign_front-sign.result.0 in
-    let partial = partial_view c.in-Some.partial in
-    read-formed MAX_SAFE_INTEGER text c.in-Some.rest.now (signed_word sign partial) c.signed.result c.ok_or-2.result (signed-formed MAX_SAFE_INTEGER sign partial)
+    let formed = signed-formed MAX_SAFE_INTEGER (sign_view c.sign_front-sign.result.0) (partial_view c.in-Some.partial) in
+    read-formed MAX_SAFE_INTEGER text _ _ (Some c.ordered.result) _ formed
     (word-as MAX_SAFE_INTEGER text _ _ c.sign_front-sign.ensures c.partial_front.ensures
     ∙ rw (ap partial_front_view c.in-Some.is, sym c.upper_of.ensures, ap partial_front_view c.in_default-upper_of.is, ends) refl)
-    c.signed.ensures c.ok_or-2.ensures.value
+    (ap Some c.ordered.ensures ∙ ap table_view (sym c.in-Some-signed.is) ∙ c.signed.ensures) refl
+
+pub returns-in-None : goal.returns-in-None
+returns-in-None c =
+    let text = c.args.text.now in
+    let ends : is_boundary c.in-Some.rest.now ≡ true = search rules in
+    let formed = signed-formed MAX_SAFE_INTEGER (sign_view c.sign_front-sign.result.0) (partial_view c.in-Some.partial) in
+    read-formed MAX_SAFE_INTEGER text _ _ None _ formed
+    (word-as MAX_SAFE_INTEGER text _ _ c.sign_front-sign.ensures c.partial_front.ensures
+    ∙ rw (ap partial_front_view c.in-Some.is, sym c.upper_of.ensures, ap partial_front_view c.in_default-upper_of.is, ends) refl)
+    (ap table_view (sym c.in-None.is) ∙ c.signed.ensures) refl
