@@ -19,6 +19,13 @@ IsTextFront bytes rest = (text : List ℕ) × IsUtf8 text × (bytes ≡ text_key
 abbrev pub IsIdFront : List ℕ → List ℕ → Type 0
 IsIdFront bytes rest = (id : Id) × IsId id × (bytes ≡ id_key id ++ rest)
 
+-- the bytes are the key of a text, of an identifier
+abbrev pub IsTextKey : List ℕ → Type 0
+IsTextKey bytes = (text : List ℕ) × IsUtf8 text × (bytes ≡ text_key text)
+
+abbrev pub IsIdKey : List ℕ → Type 0
+IsIdKey bytes = (id : Id) × IsId id × (bytes ≡ id_key id)
+
 -- the bytes are the key of a list of identifiers, of a pre-release or its absence
 abbrev pub AreIds : List ℕ → Type 0
 AreIds bytes = (list : List Id) × All IsId list × (bytes ≡ ids_key list)
@@ -44,15 +51,3 @@ abbrev pub GivesNumbers : Option (ℕ × ℕ × ℕ × Bor (List ℕ)) → ℕ �
 GivesNumbers None major minor patch rest = ⊥
 GivesNumbers (Some found) major minor patch rest =
     (found.0 ≡ major) × (found.1 ≡ minor) × (found.2 ≡ patch) × (found.3.now ≡ rest)
-
-abbrev pub GivesText : Option (Vec ℕ Global × Bor (List ℕ)) → List ℕ → List ℕ → Type 0
-GivesText None text rest = ⊥
-GivesText (Some found) text rest = (found.0.items ≡ text) × (found.1.now ≡ rest)
-
-abbrev pub GivesId : Option (Identifier × Bor (List ℕ)) → Id → List ℕ → Type 0
-GivesId None id rest = ⊥
-GivesId (Some found) id rest = (id_view found.0 ≡ id) × (found.1.now ≡ rest)
-
-abbrev pub GivesIds : Option (Vec Identifier Global) → List Id → Type 0
-GivesIds None list = ⊥
-GivesIds (Some ids) list = ids_view ids.items ≡ list
