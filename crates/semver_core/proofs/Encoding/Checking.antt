@@ -3,9 +3,9 @@ use Rattle.std.proofs.Common.{ℕ, ◌≡◌, ◌<◌, ◌≤◌, ◌==◌, ◌&
 use Rattle.std.specs.Borrow.{Bor}
 use Rattle.std.specs.List.{starts_with}
 use Rattle.std.specs.Option.{IsSome}
-use Rattle.std.specs.Prelude.{Err, MatchResult, None, Ok, Option, Result, Some, is_err, false, nat_eq}
+use Rattle.std.specs.Prelude.{Err, IfNone, MatchResult, None, Ok, Option, Result, Some, is_err, false, nat_eq}
 use Rattle.std.proofs.Math.ListN.{get_or}
-use Rattle.std.proofs.Math.Seq.{drop-append-add, take-append_seam}
+use Rattle.std.proofs.Math.Seq.{drop-append-add, drop-length, take-append_seam, take-length}
 use Rattle.std.proofs.lemmas.List.Elements.{All-cons, All-head, All-nil, All-tail}
 use Rattle.std.proofs.lemmas.Str.{IsUtf8-append, IsUtf8-encode, IsUtf8-drop, IsUtf8-take, IsCharBoundary-after_ascii, IsCharBoundary-before_ascii}
 use Rattle.semver_core.proofs.Encoding.Reading.{behind, first_of, ids_start, text_ends, text_goes_on, text_has_zero}
@@ -275,3 +275,36 @@ pre_by (AlphaNumeric t ∷ list) [] e = absurd (omega (arith, ap first_of e))
 
 pub pre_of_ids : (bytes : List ℕ) (ids : List Id) → IsPre bytes → ids_key ids ≡ bytes → pre_key ids ≡ bytes
 pre_of_ids bytes ids pre e = pre_by pre.0 ids (e ∙ pre.2) ∙ sym pre.2
+
+pub key_made : (v : VersionValue) (major minor patch : ℕ) (bytes rest : List ℕ) → bytes ≡ numbers_key major minor patch rest
+    → (v.major ≡ major) × (v.minor ≡ minor) × (v.patch ≡ patch) × (pre_key v.pre_release ≡ rest) × (v.build ≡ []) → key v ≡ bytes
+key_made v major minor patch bytes rest e is = (λ i. numbers_key (is.0 i) (is.1 i) (is.2 i) (is.3 i)) ∙ sym e
+
+-- no version has a key with this rest
+pub no_key : (bytes : List ℕ) (v : VersionValue) → IsVersion v → key v ≡ bytes
+    → ((major minor patch : ℕ) (rest : List ℕ) → major < 2 ^ 64 → minor < 2 ^ 64 → patch < 2 ^ 64
+    → bytes ≡ numbers_key major minor patch rest → ⊥) → ⊥
+no_key bytes v is e no_numbers = no_numbers v.major v.minor v.patch (pre_key v.pre_release) is.major is.minor is.patch (sym e)
+
+pub no_pre : (bytes rest : List ℕ) (M m p : ℕ) (v : VersionValue) → IsVersion v → key v ≡ bytes
+    → ((major minor patch : ℕ) (more : List ℕ) → major < 2 ^ 64 → minor < 2 ^ 64 → patch < 2 ^ 64
+    → bytes ≡ numbers_key major minor patch more → (M ≡ major) × (m ≡ minor) × (p ≡ patch) × (rest ≡ more)) → IsPre rest
+no_pre bytes rest M m p v is e only =
+    (v.pre_release, is.pre_release, (only v.major v.minor v.patch (pre_key v.pre_release) is.major is.minor is.patch (sym e)).3)
+
+pub never : {T : Type 0} (P : Type 0) (found : Option T) → IfNone found ⊥ → IfNone found P
+never P None h = absurd h
+never P (Some x) h = tt
+
+pub version_made : (v : VersionValue) (major minor patch n : ℕ) (ids : List Id) (bytes : List ℕ)
+    → v ≡ record { major = major; minor = minor; patch = patch; pre_release = take n ids; build = drop n ids }
+    → n ≡ length ids → IsPre bytes → ids_key ids ≡ bytes
+    → (v.major ≡ major) × (v.minor ≡ minor) × (v.patch ≡ patch) × (pre_key v.pre_release ≡ bytes) × (v.build ≡ [])
+version_made v major minor patch n ids bytes e len pre read = (
+  ap (λ w. w.major) e,
+  ap (λ w. w.minor) e,
+  ap (λ w. w.patch) e,
+  ap (λ w. pre_key w.pre_release) e
+      ∙ (ap (λ m. pre_key (take m ids)) len ∙ (ap pre_key (take-length ids) ∙ pre_of_ids bytes ids pre read)),
+  ap (λ w. w.build) e ∙ (ap (λ m. drop m ids) len ∙ drop-length ids),
+)

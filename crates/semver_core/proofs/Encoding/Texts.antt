@@ -1,5 +1,5 @@
 -- The text of which a key is read.
-use Rattle.std.proofs.Common.{ℕ, ◌≡◌, ◌<◌, ◌≤◌, ◌+◌, ◌-◌, ◌/◌, ◌%◌, ◌&&◌, ◌++◌, ◌∷◌, ◌∙◌, Bool, List, [], IsUtf8, ap, append-nil, arith, false, length, length-append, refl, subst, suc, sym, take, true, true≢false, zero}
+use Rattle.std.proofs.Common.{ℕ, ◌≡◌, ◌<◌, ◌≤◌, ◌+◌, ◌-◌, ◌/◌, ◌%◌, ◌&&◌, ◌++◌, ◌∷◌, ◌∙◌, Bool, List, [], IsUtf8, ap, append-nil, append_assoc, arith, false, length, length-append, refl, subst, suc, sym, take, true, true≢false, zero}
 use Rattle.std.specs.Prelude.{All, if◌then◌else◌, nat_lt}
 use Rattle.std.specs.Char.{IsScalar}
 use Rattle.std.proofs.Math.Bool.{cond}
@@ -17,11 +17,21 @@ abbrev pub unescaped : List ℕ → List ℕ
 unescaped [] = []
 unescaped (c ∷ bytes) = if nat_lt c 255 then c ∷ unescaped bytes else unescaped bytes
 
-pub unescaped_kept : (c : ℕ) (bytes : List ℕ) → c < 255 → unescaped (c ∷ bytes) ≡ c ∷ unescaped bytes
+unescaped_kept : (c : ℕ) (bytes : List ℕ) → c < 255 → unescaped (c ∷ bytes) ≡ c ∷ unescaped bytes
 unescaped_kept c bytes h = cond-true (ltb c 255) _ _ (lt-ltb c 255 h)
 
-pub unescaped_left : (c : ℕ) (bytes : List ℕ) → 255 ≤ c → unescaped (c ∷ bytes) ≡ unescaped bytes
+unescaped_left : (c : ℕ) (bytes : List ℕ) → 255 ≤ c → unescaped (c ∷ bytes) ≡ unescaped bytes
 unescaped_left c bytes h = sym (cond_above c 255 _ _ _ h refl)
+
+-- a byte that is kept, and one that is left out
+pub kept_more : (key out more left rest : List ℕ) (c : ℕ) → c < 255 → left ≡ c ∷ rest → out ++ unescaped left ≡ unescaped key
+    → more ≡ out ++ c ∷ [] → more ++ unescaped rest ≡ unescaped key
+kept_more key out more left rest c h l e m = ap (λ k. k ++ unescaped rest) m ∙ (append_assoc out (c ∷ []) (unescaped rest)
+    ∙ (ap (λ k. out ++ k) (sym (ap unescaped l ∙ unescaped_kept c rest h)) ∙ e))
+
+pub kept_same : (key out left rest : List ℕ) (c : ℕ) → 255 ≤ c → left ≡ c ∷ rest → out ++ unescaped left ≡ unescaped key
+    → out ++ unescaped rest ≡ unescaped key
+kept_same key out left rest c h l e = ap (λ k. out ++ k) (sym (ap unescaped l ∙ unescaped_left c rest h)) ∙ e
 
 abbrev Low : ℕ → Type 0
 Low c = c < 255

@@ -34,7 +34,9 @@ fn behind_text(bytes: &[u8]) -> Option<&[u8]>
 {
     let mut others = bytes;
     'text: loop {
-        let (piece, rest) = split_at_zero(others)?;
+        let Some((piece, rest)) = split_at_zero(others) else {
+            return None;
+        };
         if str::from_utf8(piece).is_err() {
             return None;
         }

@@ -21,7 +21,9 @@ fn read_two(bytes: &[u8]) -> Option<(u64, &[u8])>
     ensures complete { (n : ℕ) (rest : List ℕ) → 251 ≤ n → n < 2 ^ 16
         → bytes.now ≡ to_be_bytes w16 n ++ rest → GivesNumber result n rest }
 {
-    let (number, rest) = bytes.split_first_chunk::<2>()?;
+    let Some((number, rest)) = bytes.split_first_chunk::<2>() else {
+        return None;
+    };
     let number = u64::from(u16::from_be_bytes(*number));
     if number < 251 {
         return None;
@@ -36,7 +38,9 @@ fn read_four(bytes: &[u8]) -> Option<(u64, &[u8])>
     ensures complete { (n : ℕ) (rest : List ℕ) → 2 ^ 16 ≤ n → n < 2 ^ 32
         → bytes.now ≡ to_be_bytes w32 n ++ rest → GivesNumber result n rest }
 {
-    let (number, rest) = bytes.split_first_chunk::<4>()?;
+    let Some((number, rest)) = bytes.split_first_chunk::<4>() else {
+        return None;
+    };
     let number = u64::from(u32::from_be_bytes(*number));
     if number < 1 << 16 {
         return None;
@@ -51,7 +55,9 @@ fn read_eight(bytes: &[u8]) -> Option<(u64, &[u8])>
     ensures complete { (n : ℕ) (rest : List ℕ) → 2 ^ 32 ≤ n → n < 2 ^ 64
         → bytes.now ≡ to_be_bytes w64 n ++ rest → GivesNumber result n rest }
 {
-    let (number, rest) = bytes.split_first_chunk::<8>()?;
+    let Some((number, rest)) = bytes.split_first_chunk::<8>() else {
+        return None;
+    };
     let number = u64::from_be_bytes(*number);
     if number < 1 << 32 {
         return None;
@@ -66,7 +72,9 @@ pub(crate) fn read_number(bytes: &[u8]) -> Option<(u64, &[u8])>
     ensures complete { (n : ℕ) (rest : List ℕ) → n < 2 ^ 64
         → bytes.now ≡ number_key n ++ rest → GivesNumber result n rest }
 {
-    let (first, tail) = bytes.split_first()?;
+    let Some((first, tail)) = bytes.split_first() else {
+        return None;
+    };
     let first = *first;
     if first < 251 {
         return Some((u64::from(first), tail));

@@ -1,6 +1,6 @@
 use Rattle.std.proofs.Common.{◌≡◌, ◌+◌, ◌++◌, ◌∷◌, ◌∙◌, List, [], ap, append-nil, sym}
 use Rattle.std.proofs.lemmas.List.{map-append}
-use Rattle.semver_core.proofs.Encoding.Checking.{ids_after, ids_last, ids_next}
+use Rattle.semver_core.proofs.Encoding.Checking.{front_key_of, ids_after, ids_last, ids_next}
 use Rattle.semver_core.specs.Keys.{ids_key}
 use Rattle.semver_core.specs.Text.Identifiers.{Id}
 use Rattle.semver_core.specs.Values.Views.{id_view, ids_view}
@@ -18,3 +18,13 @@ pub returns : goal.returns
 returns c =
     let last = ids_last c.ids.others.now c.in_default.ensures.complete c.ids.invariant.keyed in
     ap ids_key (sym (append-nil (ids_view c.ids.ids.items))) ∙ c.ids.invariant.left [] last
+
+pub ids-init : goal.ids-init
+ids-init c = record { left = λ u e. rw c.new-ids.ensures.items (sym e); keyed = c.requires }
+
+pub read_id-requires : goal.read_id-requires
+read_id-requires c =
+    let front = c.in-Some.ensures.sound in (front.0, front.1, front_key_of c.ids.others.now c.in-Some.rest.now front)
+
+pub ids-smaller : goal.ids-smaller
+ids-smaller c = c.in-Some.ensures.shorter
