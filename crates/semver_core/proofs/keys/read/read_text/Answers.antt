@@ -25,15 +25,15 @@ loop-byte-preserved c =
     let left : drop i key ≡ get_or key i 0 ∷ drop (i + 1) key = drop_more key i 0 c.loop-byte-test.true in
     elim c.if-byte-lt255.branch [
       | then-byte-lt255 w ↦ rw w.text-is (record {
-            left = kept_more key c.loop-byte.text.items _ (drop i key) (drop (i + 1) key) (get_or key i 0) w.if-byte-lt255.true left
-                c.loop-byte.invariant.left w.push_reserved.ensures.items;
-            within = omega (arith, w.push_reserved.ensures.len, c.loop-byte.invariant.within);
-            room = omega (arith, w.push_reserved.ensures.capacity, c.loop-byte.invariant.room);
-          })
+        left = kept_more key c.loop-byte.text.items _ (drop i key) (drop (i + 1) key) (get_or key i 0) w.if-byte-lt255.true left
+            c.loop-byte.invariant.left w.push_reserved.ensures.items;
+        within = omega (arith, w.push_reserved.ensures.len, c.loop-byte.invariant.within);
+        room = omega (arith, w.push_reserved.ensures.capacity, c.loop-byte.invariant.room);
+      })
       | else-byte-lt255 w ↦ rw w.text-is (record {
-            left = kept_same key c.loop-byte.text.items (drop i key) (drop (i + 1) key) (get_or key i 0) w.if-byte-lt255.false left
-                c.loop-byte.invariant.left;
-            within = omega (arith, c.loop-byte.invariant.within);
-            room = c.loop-byte.invariant.room;
-          })
+        left = kept_same key c.loop-byte.text.items (drop i key) (drop (i + 1) key) (get_or key i 0) w.if-byte-lt255.false left
+            c.loop-byte.invariant.left;
+        within = omega (arith, c.loop-byte.invariant.within);
+        room = c.loop-byte.invariant.room;
+      })
     ]
