@@ -1,28 +1,17 @@
 -- What the bytes at the front of a key say.
-use Rattle.std.proofs.Common.{ℕ, ◌≡◌, ◌<◌, ◌^◌, ◌+◌, ◌++◌, ◌∷◌, List, [], refl, ap, arith, zero, suc, ◌∙◌, sym, length, drop, take, subst}
+use Rattle.std.proofs.Common.{ℕ, ◌≡◌, ◌<◌, ◌+◌, ◌++◌, ◌∷◌, List, [], refl, ap, arith, zero, suc, ◌∙◌, sym, length, drop, take, subst}
 use Rattle.std.specs.Int.{from_be_bytes, to_be_bytes, w16, w32, w64}
 use Rattle.std.proofs.lemmas.List.{get_or_past, take-append-drop}
 use Rattle.std.proofs.lemmas.Nat.{be_bytes_2, be_bytes_4, be_bytes_8}
 use Rattle.std.proofs.Math.ListN.{get_or}
-use Rattle.semver_core.proofs.Encoding.Numbers.{Form, eight, form, four, one, two}
-use Rattle.semver_core.specs.Keys.{id_key, ids_key, number_key, text_key}
+use Rattle.semver_core.specs.Keys.{ids_key, text_key}
 use Rattle.semver_core.specs.Text.Identifiers.{AlphaNumeric, Id, Numeric}
-use Rattle.semver_core.specs.Values.Versions.{IsId}
 use Rattle.semver_core.specs.Internal.KeyReading.{IsLow, low}
 
 pub ids_start : (xs : List Id) → IsLow (ids_key xs)
 ids_start [] = low 0 [] (omega arith)
 ids_start (Numeric n ∷ xs) = low 1 _ (omega arith)
 ids_start (AlphaNumeric t ∷ xs) = low 2 _ (omega arith)
-
-none_by : (n : ℕ) (k rest : List ℕ) → Form n k → [] ≡ k ++ rest → ⊥
-none_by n _ rest (one h) e = cc e
-none_by n _ rest (two g h) e = cc e
-none_by n _ rest (four g h) e = cc e
-none_by n _ rest (eight g h) e = cc e
-
-pub no_number : (n : ℕ) (rest : List ℕ) → n < 2 ^ 64 → [] ≡ number_key n ++ rest → ⊥
-no_number n rest h = none_by n _ rest (form n h)
 
 abbrev pub first_of : List ℕ → ℕ
 first_of [] = 0
@@ -33,11 +22,6 @@ behind [] = []
 behind (c ∷ rest) = rest
 
 -- ---- texts
-
-pub no_text : (text rest : List ℕ) → [] ≡ text_key text ++ rest → ⊥
-no_text [] rest e = cc e
-no_text (zero ∷ text) rest e = cc e
-no_text (suc c ∷ text) rest e = cc e
 
 -- a byte that is not 0 is one of the text
 pub text_goes_on : (c : ℕ) (tail text rest : List ℕ) → 0 < c → c ∷ tail ≡ text_key text ++ rest

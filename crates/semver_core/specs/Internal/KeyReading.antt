@@ -1,12 +1,9 @@
 -- For private contracts: what is read at the front of a key.
-use Rattle.std.specs.Prelude.{◌<◌, ◌≡◌, ◌++◌, ◌∷◌, All, IsUtf8, List, None, Option, Some, Vec, ℕ}
+use Rattle.std.specs.Prelude.{◌<◌, ◌≡◌, ◌++◌, ◌∷◌, All, IsUtf8, List, None, Option, Some, ℕ}
 use Rattle.std.specs.Borrow.{Bor}
-use Rattle.std.specs.declared.alloc.Global.{Global}
 use Rattle.semver_core.specs.Keys.{id_key, ids_key, number_key, pre_key, text_key}
 use Rattle.semver_core.specs.Text.Identifiers.{Id}
 use Rattle.semver_core.specs.Values.Versions.{IsId}
-use Rattle.semver_core.specs.Values.Views.{id_view, ids_view}
-use Rattle.semver_core.specs.declared.identifier.Identifier.{Identifier}
 
 -- the list begins with a byte below 255
 pub data IsLow : List ℕ → Type 0 where

@@ -1,5 +1,5 @@
 use Rattle.std.proofs.Common.{◌≡◌, ◌+◌, ◌++◌, ◌∙◌, ℕ, List, ap, arith, length, length-append, min}
-use Rattle.semver_core.specs.Keys.{key, number_key, pre_key}
+use Rattle.semver_core.specs.Keys.{number_key, pre_key}
 use Rattle.semver_core.specs.Text.Identifiers.{Id}
 use Rattle.semver_core.specs.Values.Versions.{VersionValue}
 use Rattle.semver_core.proofs.keys.length.key_len.Goals as goal

@@ -1,8 +1,7 @@
-use Rattle.std.proofs.Common.{◌≡◌, ◌+◌, ◌++◌, ◌∷◌, ◌∙◌, List, [], ap, append-nil, sym}
+use Rattle.std.proofs.Common.{◌∷◌, ◌∙◌, [], ap, append-nil, sym}
 use Rattle.std.proofs.lemmas.List.{map-append}
 use Rattle.semver_core.proofs.Encoding.Checking.{front_key_of, ids_after, ids_last, ids_next}
 use Rattle.semver_core.specs.Keys.{ids_key}
-use Rattle.semver_core.specs.Text.Identifiers.{Id}
 use Rattle.semver_core.specs.Values.Views.{id_view, ids_view}
 use Rattle.semver_core.proofs.keys.read.read_ids.Goals as goal
 
