@@ -13,6 +13,7 @@ pub mod Keys
 pub mod Lengths
 pub mod Line
 pub mod Normal
+pub mod OfKind
 pub mod OneList
 pub mod OnePreList
 pub mod OneRange

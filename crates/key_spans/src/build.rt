@@ -1,11 +1,11 @@
 // The parts of the keys of what intervals accept.
 
-ghost use Rattle.std.specs.Prelude.{◌≡◌, ◌++◌, IfOk, map, OnOk};
-ghost use Rattle.key_spans.specs.Internal.Kinds.{start_place, stop_place, stretch};
+ghost use Rattle.std.specs.Prelude.{◌≡◌, ◌++◌, IfOk, OnOk};
+ghost use Rattle.key_spans.specs.Internal.Kinds.{all_of_kind, of_kind, start_place, stop_place};
+ghost use Rattle.key_spans.specs.Internal.Kinds.{stretch};
 ghost use Rattle.key_spans.specs.Internal.Pieces.{IsCanonicalOf};
 ghost use Rattle.key_spans.specs.Internal.Places.{bound_stretch, greater, lesser, own_part};
-ghost use Rattle.key_spans.specs.Internal.Places.{own_stretch, pre_releases, pre_stretch};
-ghost use Rattle.key_spans.specs.Internal.Places.{pre_stretches};
+ghost use Rattle.key_spans.specs.Internal.Places.{own_stretch, pre_stretches};
 ghost use Rattle.nodejs_semver.specs.Internal.Shorthands.{spans_of};
 ghost use Rattle.nodejs_semver.specs.Ranges.View.{bound_of, span_of};
 
@@ -19,6 +19,8 @@ use std::alloc::{AllocError, Global};
 #[derive(Clone, Copy)]
 pub(crate) enum Kind {
     Releases,
+    // The pre-releases of the numbers of a bound that is one.
+    PreReleases,
     Versions,
 }
 
@@ -33,6 +35,7 @@ fn start_place<V: VersionPoint>(
 {
     match kind {
         Kind::Releases => release_place(alloc, lower, &[0, 0, 0, 3]),
+        Kind::PreReleases => pre_place(alloc, lower, &[]),
         Kind::Versions => version_place(alloc, lower, &[0, 0, 0, 1, 0, 0]),
     }
 }
@@ -48,11 +51,12 @@ fn stop_place<V: VersionPoint>(
 {
     match kind {
         Kind::Releases => release_place(alloc, upper, &END),
+        Kind::PreReleases => pre_place(alloc, upper, &END),
         Kind::Versions => version_place(alloc, upper, &END),
     }
 }
 
-// The part of an interval.
+// The part of an interval; of pre-releases all that lie between its bounds.
 fn part_of<V: VersionPoint>(
     alloc: Global,
     kind: Kind,
@@ -85,15 +89,6 @@ fn lesser_of<'s>(first: &'s [u8], second: &'s [u8]) -> &'s [u8]
     } else {
         second
     }
-}
-
-// What lies between the bounds of an interval, with all pre-releases.
-fn pre_part<V: VersionPoint>(alloc: Global, interval: &Interval<V>) -> Result<Part, AllocError>
-    ensures { IfOk result (λ part. part ≡ pre_stretch (span_of V.value interval.now)) }
-{
-    let start = pre_place(alloc, interval.lower(), &[])?;
-    let stop = pre_place(alloc, interval.upper(), &END)?;
-    Ok(Part { start, stop })
 }
 
 // The pre-releases of a version's numbers within a part.
@@ -151,38 +146,39 @@ fn add_pre<V: VersionPoint>(
     ensures { OnOk result (parts.new.items
         ≡ parts.old.items ++ pre_stretches (span_of V.value interval.now)) }
 {
-    let within = pre_part(alloc, interval)?;
+    let within = part_of(alloc, Kind::PreReleases, interval)?;
     add_bound(alloc, &within, interval.lower(), parts)?;
     add_bound(alloc, &within, interval.upper(), parts)
 }
 
-// The canonical list of the parts of intervals.
+// Adds those of an interval.
+fn add_kind<V: VersionPoint>(
+    alloc: Global,
+    kind: Kind,
+    interval: &Interval<V>,
+    parts: &mut Vec<Part>,
+) -> Result<(), AllocError>
+    ensures { OnOk result (parts.new.items
+        ≡ parts.old.items ++ of_kind kind (span_of V.value interval.now)) }
+{
+    match kind {
+        Kind::PreReleases => add_pre(alloc, interval, parts),
+        _ => Ok(parts.push(part_of(alloc, kind, interval)?)?),
+    }
+}
+
+// The canonical list of those of intervals.
 pub(crate) fn parts_of<V: VersionPoint>(
     alloc: Global,
     kind: Kind,
     intervals: &[Interval<V>],
 ) -> Result<Vec<Part>, AllocError>
     ensures { IfOk result (λ parts.
-        IsCanonicalOf (map (stretch kind) (spans_of V.value intervals.now)) parts.items) }
+        IsCanonicalOf (all_of_kind kind (spans_of V.value intervals.now)) parts.items) }
 {
     let mut parts = Vec::new(alloc);
     for interval in intervals {
-        parts.push(part_of(alloc, kind, interval)?)?;
-    }
-    canonical(alloc, parts)
-}
-
-// The canonical list of the pre-releases of intervals that their bounds let in.
-pub(crate) fn pre_parts<V: VersionPoint>(
-    alloc: Global,
-    intervals: &[Interval<V>],
-) -> Result<Vec<Part>, AllocError>
-    ensures { IfOk result (λ parts.
-        IsCanonicalOf (pre_releases (spans_of V.value intervals.now)) parts.items) }
-{
-    let mut parts = Vec::new(alloc);
-    for interval in intervals {
-        add_pre(alloc, interval, &mut parts)?;
+        add_kind(alloc, kind, interval, &mut parts)?;
     }
     canonical(alloc, parts)
 }

@@ -32,7 +32,7 @@ ghost use Rattle.nodejs_semver.specs.Ranges.Gate.{accepts};
 ghost use Rattle.semver_core.specs.Keys.{key};
 ghost use Rattle.semver_core.specs.Values.Versions.{IsVersion, VersionValue};
 
-use crate::build::{Kind, parts_of, pre_parts};
+use crate::build::{Kind, parts_of};
 use crate::canon::Part;
 use nodejs_semver::{RangeOf, VersionPoint};
 use std::alloc::{AllocError, Global};
@@ -93,7 +93,7 @@ pub fn key_spans<V: VersionPoint>(
         return spans_of(alloc, Vec::new(alloc), versions);
     }
     let releases = parts_of(alloc, Kind::Releases, intervals)?;
-    let pre_releases = pre_parts(alloc, intervals)?;
+    let pre_releases = parts_of(alloc, Kind::PreReleases, intervals)?;
     spans_of(alloc, releases, pre_releases)
 }
 

@@ -16,14 +16,15 @@
 
 ghost use Rattle.std.specs.List.{AllZip};
 ghost use Rattle.std.specs.Prelude.{◌≡◌, ◌↔◌, [], Bool, false, IfNone, IfOk, IfSome, IsTrue, List};
-ghost use Rattle.std.specs.Prelude.{true};
+ghost use Rattle.std.specs.Prelude.{Some, true};
 ghost use Rattle.key_spans.specs.Internal.Places.{end_key};
-ghost use Rattle.key_spans.specs.Ranges.{bound_at, have_one_triple, is_next, IsIntervalOf};
-ghost use Rattle.key_spans.specs.Ranges.{IsRangeOf, IsSimple};
+ghost use Rattle.key_spans.specs.Ranges.{bound_at, have_one_triple, interval_of, is_next};
+ghost use Rattle.key_spans.specs.Ranges.{IsIntervalOf, IsRangeOf, IsSimple};
 ghost use Rattle.key_spans.specs.Spans.{HasEnds, is_some_span, IsCanonical};
 ghost use Rattle.nodejs_semver.specs.Ranges.Gate.{accepts};
 ghost use Rattle.nodejs_semver.specs.Ranges.View.{IsRange};
-ghost use Rattle.semver_core.specs.Cuts.{Span};
+ghost use Rattle.semver_core.specs.Cuts.{Span, interval};
+ghost use Rattle.semver_core.specs.Values.Order.{precedence};
 ghost use Rattle.semver_core.specs.Values.Versions.{IsVersion, VersionValue};
 
 use crate::marks::{END, lowest};
@@ -89,13 +90,22 @@ fn interval_of(alloc: Global, span: &KeySpan) -> Result<Option<Interval<Version>
         let lower = bound_at(first, only, true);
         return Ok(Interval::new(lower, Bound::Unbounded));
     }
-    let Some(last) = Version::from_key(alloc, &span.stop)? else {
-        return Ok(None);
-    };
+    match Version::from_key(alloc, &span.stop)? {
+        Some(last) => Ok(between(first, last, only)),
+        None => Ok(None),
+    }
+}
+
+// The interval from the first version up to the last one.
+fn between(first: Version, last: Version, releases_only: bool) -> Option<Interval<Version>>
+    ensures value { result ≡ interval precedence (interval_of releases_only first (Some last)) }
+    ensures first { IsVersion first }
+    ensures last { IsVersion last }
+{
     let is_apart = !have_one_triple(&first, &last);
-    let lower = bound_at(first, only, is_apart);
-    let upper = bound_at(last, only, is_apart);
-    Ok(Interval::new(lower, upper))
+    let lower = bound_at(first, releases_only, is_apart);
+    let upper = bound_at(last, releases_only, is_apart);
+    Interval::new(lower, upper)
 }
 
 // Whether the bytes are those above all keys.
@@ -118,12 +128,18 @@ fn bound_at(version: Version, releases_only: bool, is_apart: bool) -> Bound<Vers
     ensures valid { IsVersion version }
 {
     let (major, minor, patch) = (version.major(), version.minor(), version.patch());
-    let is_lowest = version.cmp_precedence(&lowest(major, minor, patch)).is_eq();
-    let is_next = releases_only || is_apart && is_lowest;
-    if is_next && patch > MAX_SAFE_INTEGER {
+    if is_next(&version, releases_only, is_apart) && patch > MAX_SAFE_INTEGER {
         return Bound::After(Version::from((major, minor, patch - 1)));
     }
     Bound::Before(version)
+}
+
+// Whether no version of the span lies between a version and the release before it.
+fn is_next(version: &Version, releases_only: bool, is_apart: bool) -> bool
+    ensures { result ≡ is_next releases_only is_apart version.now }
+{
+    let lowest = lowest(version.major(), version.minor(), version.patch());
+    releases_only || is_apart && version.cmp_precedence(&lowest).is_eq()
 }
 
 /// The range of the spans of a range: it accepts the same versions, with pre-releases included or

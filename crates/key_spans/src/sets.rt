@@ -168,10 +168,10 @@ fn lesser<'s>(one: Option<&'s [u8]>, other: Option<&'s [u8]>) -> Option<&'s [u8]
     ensures { option_map (λ place. place.now) result ≡ least (slice_cmp nat_cmp)
         (option_map (λ place. place.now) one.entry) (option_map (λ place. place.now) other.entry) }
 {
-    let Some(place) = one else { return other };
-    match other {
-        Some(second) if second.cmp(place).is_lt() => Some(second),
-        _ => Some(place),
+    match (one, other) {
+        (Some(first), Some(second)) if second.cmp(first).is_lt() => Some(second),
+        (Some(first), _) => Some(first),
+        (None, second) => second,
     }
 }
 
@@ -218,12 +218,11 @@ impl<'s> Walk<'s> {
     fn end(&self) -> Option<&'s [u8]>
         ensures { option_map (λ place. place.now) result ≡ first_end self.now }
     {
-        let span = self.spans.first()?;
-        Some(if self.is_inside {
-            span.stop.as_slice()
-        } else {
-            span.start.as_slice()
-        })
+        match self.spans.first() {
+            None => None,
+            Some(span) if self.is_inside => Some(span.stop.as_slice()),
+            Some(span) => Some(span.start.as_slice()),
+        }
     }
 
     // Passes the next end, if it is this place.

@@ -1,4 +1,5 @@
 pub mod Numbers
 pub mod Order
 pub mod Reading
+pub mod Texts
 pub mod Checking

@@ -27,10 +27,7 @@ pub(crate) fn write_key<V: Versioned>(version: &V, bytes: &mut Vec<u8>) -> Resul
     ensures memory { OnErr result
         (vec_capacity bytes.old < vec_len bytes.old + length (key (V.value version.now))) }
 {
-    let Some(len) = key_len(version) else {
-        return Err(AllocError);
-    };
-    bytes.reserve(len)?;
+    bytes.reserve(key_len(version))?;
     write_number(version.major(), bytes);
     write_number(version.minor(), bytes);
     write_number(version.patch(), bytes);

@@ -1,12 +1,15 @@
 -- What is found at the front of a key by a check that allocates nothing.
-use Rattle.std.proofs.Common.{ℕ, ◌≡◌, ◌<◌, ◌≤◌, ◌==◌, ◌&&◌, ◌^◌, ◌+◌, ◌++◌, ◌∷◌, ◌∙◌, List, [], All, Bool, IsUtf8, ap, append-nil, append_assoc, arith, drop, length, not, refl, subst, suc, sym, take, true, true≢false, zero}
-use Rattle.std.specs.Prelude.{Err, MatchResult, Ok, Result, is_err, false}
+use Rattle.std.proofs.Common.{ℕ, ◌≡◌, ◌<◌, ◌≤◌, ◌==◌, ◌&&◌, ◌^◌, ◌+◌, ◌-◌, ◌++◌, ◌∷◌, ◌∙◌, List, [], All, Bool, IsUtf8, ap, append-nil, append_assoc, arith, drop, length, length-append, not, refl, subst, suc, sym, take, true, true≢false, zero}
+use Rattle.std.specs.Borrow.{Bor}
+use Rattle.std.specs.List.{starts_with}
+use Rattle.std.specs.Option.{IsSome}
+use Rattle.std.specs.Prelude.{Err, IfNone, MatchResult, None, Ok, Option, Result, Some, is_err, false, nat_eq}
 use Rattle.std.proofs.Math.ListN.{get_or}
-use Rattle.std.proofs.Math.Seq.{drop-append-add}
+use Rattle.std.proofs.Math.Seq.{drop-append-add, drop-length, take-append_seam, take-length}
 use Rattle.std.proofs.lemmas.List.Elements.{All-cons, All-head, All-nil, All-tail}
 use Rattle.std.proofs.lemmas.Str.{IsUtf8-append, IsUtf8-encode, IsUtf8-drop, IsUtf8-take, IsCharBoundary-after_ascii, IsCharBoundary-before_ascii}
 use Rattle.semver_core.proofs.Encoding.Reading.{behind, first_of, ids_start, text_ends, text_goes_on, text_has_zero}
-use Rattle.semver_core.specs.Internal.KeyReading.{AreIds, IsIdFront, IsLow, IsPre, IsTextFront, numbers_key}
+use Rattle.semver_core.specs.Internal.KeyReading.{AreIds, GivesNumber, IsIdFront, IsIdKey, IsLow, IsPre, IsTextFront, numbers_key}
 use Rattle.semver_core.specs.Keys.{id_key, ids_key, key, number_key, pre_key, text_key}
 use Rattle.semver_core.specs.Text.Identifiers.{AlphaNumeric, Id, Numeric}
 use Rattle.semver_core.specs.Values.Versions.{IsId, IsVersion, VersionValue}
@@ -147,23 +150,6 @@ more_shorter bytes others piece tail more h e f = omega (arith, h, ap length e, 
 
 -- ---- identifiers
 
-nothing_keyed : (u : List Id) → [] ≡ ids_key u → ⊥
-nothing_keyed [] e = cc e
-nothing_keyed (Numeric n ∷ u) e = cc e
-nothing_keyed (AlphaNumeric t ∷ u) e = cc e
-
-pub no_ids_found : (others : List ℕ) → length others ≡ 0 → AreIds others → ⊥
-no_ids_found [] e ids = nothing_keyed ids.0 ids.2
-no_ids_found (c ∷ others) e ids = omega arith
-
-ended_by : (u : List Id) (tail : List ℕ) → 0 ∷ tail ≡ ids_key u → length tail ≡ 0
-ended_by [] tail e = ap (λ k. length (behind k)) e
-ended_by (Numeric n ∷ u) tail e = absurd (omega (arith, ap first_of e))
-ended_by (AlphaNumeric t ∷ u) tail e = absurd (omega (arith, ap first_of e))
-
-pub ids_end : (others tail : List ℕ) (c : ℕ) → others ≡ c ∷ tail → c ≡ 0 → AreIds others → length tail ≡ 0
-ids_end others tail c e f ids = ended_by ids.0 tail (ap (λ d. d ∷ tail) (sym f) ∙ (sym e ∙ ids.2))
-
 pub number_front : (bytes tail rest : List ℕ) (c : ℕ) → bytes ≡ c ∷ tail → c ≡ 1
     → (n : ℕ) × (n < 2 ^ 64) × (tail ≡ number_key n ++ rest) → IsIdFront bytes rest
 number_front bytes tail rest c e f found =
@@ -180,24 +166,45 @@ ids_found others rest front ids = (
   front.2 ∙ ap (λ k. id_key front.0 ++ k) ids.2,
 )
 
--- the identifier that comes next, and the others
-pub record NextId (others : List ℕ) : Type 0 where
-  pub rest : List ℕ
-  pub ids : AreIds rest
-  pub is_low : IsLow rest
-  pub front : IsIdFront others rest
+end_by : (x : Id) (rest : List ℕ) → 0 ∷ [] ≡ id_key x ++ rest → ⊥
+end_by (Numeric n) rest e = cc e
+end_by (AlphaNumeric t) rest e = cc e
 
-next_by : (u : List Id) (others tail : List ℕ) (c : ℕ) → All IsId u → others ≡ c ∷ tail → 0 < c → others ≡ ids_key u → NextId others
-next_by [] others tail c all e h f = absurd (omega (arith, ap first_of (sym e ∙ f)))
-next_by (x ∷ u) others tail c all e h f = record {
-  rest = ids_key u;
-  ids = (u, All-tail IsId x u all, refl);
-  is_low = ids_start u;
-  front = (x, All-head IsId x u all, f);
-}
+-- what follows the first identifier is the key of the others
+next_by : (u : List Id) (others rest : List ℕ) → All IsId u → others ≡ ids_key u → IsIdFront others rest
+    → ((more : List ℕ) → IsLow more → IsIdFront others more → rest ≡ more) → AreIds rest
+next_by [] others rest all e front only = absurd (end_by front.0 rest (sym e ∙ front.2))
+next_by (x ∷ u) others rest all e front only =
+    subst (λ k. AreIds k) (sym (only (ids_key u) (ids_start u) (x, All-head IsId x u all, e))) (u, All-tail IsId x u all, refl)
 
-pub next_id : (others tail : List ℕ) (c : ℕ) → others ≡ c ∷ tail → 0 < c → AreIds others → NextId others
-next_id others tail c e h ids = next_by ids.0 others tail c ids.1 e h ids.2
+pub ids_next : (others rest : List ℕ) → IsIdFront others rest → ((more : List ℕ) → IsLow more → IsIdFront others more → rest ≡ more)
+    → AreIds others → AreIds rest
+ids_next others rest front only ids = next_by ids.0 others rest ids.1 ids.2 front only
+
+-- where no identifier comes first there is only the end
+last_by : (u : List Id) (others : List ℕ) → All IsId u → others ≡ ids_key u
+    → ((rest : List ℕ) → IsLow rest → IsIdFront others rest → ⊥) → others ≡ 0 ∷ []
+last_by [] others all e none = e
+last_by (x ∷ u) others all e none = absurd (none (ids_key u) (ids_start u) (x, All-head IsId x u all, e))
+
+pub ids_last : (others : List ℕ) → ((rest : List ℕ) → IsLow rest → IsIdFront others rest → ⊥) → AreIds others → others ≡ 0 ∷ []
+ids_last others none ids = last_by ids.0 others ids.1 ids.2 none
+
+-- the key of the first identifier is what stands before what follows it
+pub front_key_of : (others rest : List ℕ) (front : IsIdFront others rest) → take (length others - length rest) others ≡ id_key front.0
+front_key_of others rest front =
+    let len : length others - length rest ≡ length (id_key front.0) =
+    omega (arith, ap length front.2, length-append (id_key front.0) rest) in
+    ap (λ n. take n others) len ∙ (ap (take (length (id_key front.0))) front.2 ∙ take-append_seam (id_key front.0) rest)
+
+pub ids_after : (key others rest : List ℕ) (so_far more : List Id) (x : Id) → IsIdFront others rest
+    → id_key x ≡ take (length others - length rest) others → more ≡ so_far ++ x ∷ []
+    → ((u : List Id) → others ≡ ids_key u → ids_key (so_far ++ u) ≡ key)
+    → (u : List Id) → rest ≡ ids_key u → ids_key (more ++ u) ≡ key
+ids_after key others rest so_far more x front read e left u f =
+    let spelled : others ≡ ids_key (x ∷ u) =
+    front.2 ∙ (ap (λ k. k ++ rest) (sym (read ∙ front_key_of others rest front)) ∙ ap (λ k. id_key x ++ k) f) in
+    ap (λ k. ids_key (k ++ u)) e ∙ (ap ids_key (append_assoc so_far (x ∷ []) u) ∙ left (x ∷ u) spelled)
 
 -- ---- pre-releases
 
@@ -232,3 +239,72 @@ pub keyed : (major minor patch : ℕ) (bytes rest : List ℕ) → major < 2 ^ 64
     → bytes ≡ numbers_key major minor patch rest → IsPre rest → (rest ≡ pre_key [] → ⊥)
     → (v : VersionValue) × IsVersion v × (key v ≡ bytes) × (0 < length v.pre_release)
 keyed major minor patch bytes rest h k l e pre some_id = keyed_by major minor patch pre.0 bytes rest h k l pre.1 e pre.2 some_id
+
+-- ---- one identifier
+
+-- what follows the first byte of the key of an identifier
+numeric_by : (id : Id) (key tail : List ℕ) → IsId id → key ≡ 1 ∷ tail → key ≡ id_key id → (n : ℕ) × (n < 2 ^ 64) × (tail ≡ number_key n)
+numeric_by (Numeric n) key tail is e f = (n, is, ap behind (sym e ∙ f))
+numeric_by (AlphaNumeric t) key tail is e f = absurd (omega (arith, ap first_of (sym e ∙ f)))
+
+some_given : (n : ℕ) (rest : List ℕ) (r : Option (ℕ × Bor (List ℕ))) → GivesNumber r n rest → IsSome r
+some_given n rest None h = absurd h
+some_given n rest (Some f) h = refl
+
+pub number_there : (key tail : List ℕ) (c : ℕ) (r : Option (ℕ × Bor (List ℕ))) → IsIdKey key → key ≡ c ∷ tail → c ≡ 1
+    → ((n : ℕ) (rest : List ℕ) → n < 2 ^ 64 → tail ≡ number_key n ++ rest → GivesNumber r n rest) → IsSome r
+number_there key tail c r id e h given =
+    let found = numeric_by id.0 key tail id.1 (e ∙ ap (λ d. d ∷ tail) h) id.2 in
+    some_given found.0 [] r (given found.0 [] found.1 (found.2 ∙ sym (append-nil (number_key found.0))))
+
+-- ---- the identifiers of a pre-release
+
+ids_by : (list : List Id) (bytes : List ℕ) → All IsId list → bytes ≡ pre_key list → false ≡ starts_with nat_eq bytes (3 ∷ []) → AreIds bytes
+ids_by [] bytes all e other = absurd (true≢false (sym (other ∙ ap (λ l. starts_with nat_eq l (3 ∷ [])) e)))
+ids_by (x ∷ list) bytes all e other = (x ∷ list, all, e)
+
+-- what does not begin with the byte 3 is the key of identifiers
+pub ids_of_pre : (bytes : List ℕ) → IsPre bytes → false ≡ starts_with nat_eq bytes (3 ∷ []) → AreIds bytes
+ids_of_pre bytes pre other = ids_by pre.0 bytes pre.1 pre.2 other
+
+pre_by : (list ids : List Id) → ids_key ids ≡ pre_key list → pre_key ids ≡ pre_key list
+pre_by list (x ∷ ids) e = e
+pre_by [] [] e = absurd (omega (arith, ap first_of e))
+pre_by (Numeric n ∷ list) [] e = absurd (omega (arith, ap first_of e))
+pre_by (AlphaNumeric t ∷ list) [] e = absurd (omega (arith, ap first_of e))
+
+pub pre_of_ids : (bytes : List ℕ) (ids : List Id) → IsPre bytes → ids_key ids ≡ bytes → pre_key ids ≡ bytes
+pre_of_ids bytes ids pre e = pre_by pre.0 ids (e ∙ pre.2) ∙ sym pre.2
+
+pub key_made : (v : VersionValue) (major minor patch : ℕ) (bytes rest : List ℕ) → bytes ≡ numbers_key major minor patch rest
+    → (v.major ≡ major) × (v.minor ≡ minor) × (v.patch ≡ patch) × (pre_key v.pre_release ≡ rest) × (v.build ≡ []) → key v ≡ bytes
+key_made v major minor patch bytes rest e is = (λ i. numbers_key (is.0 i) (is.1 i) (is.2 i) (is.3 i)) ∙ sym e
+
+-- no version has a key with this rest
+pub no_key : (bytes : List ℕ) (v : VersionValue) → IsVersion v → key v ≡ bytes
+    → ((major minor patch : ℕ) (rest : List ℕ) → major < 2 ^ 64 → minor < 2 ^ 64 → patch < 2 ^ 64
+    → bytes ≡ numbers_key major minor patch rest → ⊥) → ⊥
+no_key bytes v is e no_numbers = no_numbers v.major v.minor v.patch (pre_key v.pre_release) is.major is.minor is.patch (sym e)
+
+pub no_pre : (bytes rest : List ℕ) (M m p : ℕ) (v : VersionValue) → IsVersion v → key v ≡ bytes
+    → ((major minor patch : ℕ) (more : List ℕ) → major < 2 ^ 64 → minor < 2 ^ 64 → patch < 2 ^ 64
+    → bytes ≡ numbers_key major minor patch more → (M ≡ major) × (m ≡ minor) × (p ≡ patch) × (rest ≡ more)) → IsPre rest
+no_pre bytes rest M m p v is e only =
+    (v.pre_release, is.pre_release, (only v.major v.minor v.patch (pre_key v.pre_release) is.major is.minor is.patch (sym e)).3)
+
+pub never : {T : Type 0} (P : Type 0) (found : Option T) → IfNone found ⊥ → IfNone found P
+never P None h = absurd h
+never P (Some x) h = tt
+
+pub version_made : (v : VersionValue) (major minor patch n : ℕ) (ids : List Id) (bytes : List ℕ)
+    → v ≡ record { major = major; minor = minor; patch = patch; pre_release = take n ids; build = drop n ids }
+    → n ≡ length ids → IsPre bytes → ids_key ids ≡ bytes
+    → (v.major ≡ major) × (v.minor ≡ minor) × (v.patch ≡ patch) × (pre_key v.pre_release ≡ bytes) × (v.build ≡ [])
+version_made v major minor patch n ids bytes e len pre read = (
+  ap (λ w. w.major) e,
+  ap (λ w. w.minor) e,
+  ap (λ w. w.patch) e,
+  ap (λ w. pre_key w.pre_release) e
+      ∙ (ap (λ m. pre_key (take m ids)) len ∙ (ap pre_key (take-length ids) ∙ pre_of_ids bytes ids pre read)),
+  ap (λ w. w.build) e ∙ (ap (λ m. drop m ids) len ∙ drop-length ids),
+)

@@ -1,30 +1,17 @@
 -- What the bytes at the front of a key say.
-use Rattle.std.proofs.Common.{ℕ, ◌≡◌, ◌<◌, ◌^◌, ◌+◌, ◌++◌, ◌∷◌, List, [], refl, ap, arith, zero, suc, ◌∙◌, sym, length, drop, take, append-nil, append_assoc, subst}
+use Rattle.std.proofs.Common.{ℕ, ◌≡◌, ◌<◌, ◌+◌, ◌++◌, ◌∷◌, List, [], refl, ap, arith, zero, suc, ◌∙◌, sym, length, drop, take, subst}
 use Rattle.std.specs.Int.{from_be_bytes, to_be_bytes, w16, w32, w64}
 use Rattle.std.proofs.lemmas.List.{get_or_past, take-append-drop}
 use Rattle.std.proofs.lemmas.Nat.{be_bytes_2, be_bytes_4, be_bytes_8}
 use Rattle.std.proofs.Math.ListN.{get_or}
-use Rattle.semver_core.proofs.Encoding.Numbers.{Form, eight, form, four, one, two}
-use Rattle.std.specs.Prelude.{All}
-use Rattle.std.proofs.lemmas.List.Elements.{All-head, All-tail}
-use Rattle.semver_core.specs.Keys.{id_key, ids_key, number_key, text_key}
+use Rattle.semver_core.specs.Keys.{ids_key, text_key}
 use Rattle.semver_core.specs.Text.Identifiers.{AlphaNumeric, Id, Numeric}
-use Rattle.semver_core.specs.Values.Versions.{IsId}
 use Rattle.semver_core.specs.Internal.KeyReading.{IsLow, low}
 
 pub ids_start : (xs : List Id) → IsLow (ids_key xs)
 ids_start [] = low 0 [] (omega arith)
 ids_start (Numeric n ∷ xs) = low 1 _ (omega arith)
 ids_start (AlphaNumeric t ∷ xs) = low 2 _ (omega arith)
-
-none_by : (n : ℕ) (k rest : List ℕ) → Form n k → [] ≡ k ++ rest → ⊥
-none_by n _ rest (one h) e = cc e
-none_by n _ rest (two g h) e = cc e
-none_by n _ rest (four g h) e = cc e
-none_by n _ rest (eight g h) e = cc e
-
-pub no_number : (n : ℕ) (rest : List ℕ) → n < 2 ^ 64 → [] ≡ number_key n ++ rest → ⊥
-no_number n rest h = none_by n _ rest (form n h)
 
 abbrev pub first_of : List ℕ → ℕ
 first_of [] = 0
@@ -35,11 +22,6 @@ behind [] = []
 behind (c ∷ rest) = rest
 
 -- ---- texts
-
-pub no_text : (text rest : List ℕ) → [] ≡ text_key text ++ rest → ⊥
-no_text [] rest e = cc e
-no_text (zero ∷ text) rest e = cc e
-no_text (suc c ∷ text) rest e = cc e
 
 -- a byte that is not 0 is one of the text
 pub text_goes_on : (c : ℕ) (tail text rest : List ℕ) → 0 < c → c ∷ tail ≡ text_key text ++ rest
@@ -61,71 +43,6 @@ pub text_ends : (tail text rest : List ℕ) → ((more : List ℕ) → tail ≡ 
 text_ends tail [] rest h e = (refl, ap behind e)
 text_ends tail (zero ∷ text) rest h e = absurd (h (text_key text ++ rest) (ap behind e))
 text_ends tail (suc d ∷ text) rest h e = absurd (omega (arith, ap first_of e))
-
--- ---- identifiers
-
--- what is left of a list of identifiers whose front was read
-abbrev pub AreLeft : (whole so_far : List Id) (others : List ℕ) → Type 0
-AreLeft whole so_far others = (u : List Id) × (whole ≡ so_far ++ u) × (others ≡ ids_key u)
-
-no_ids : (u : List Id) → [] ≡ ids_key u → ⊥
-no_ids [] e = cc e
-no_ids (Numeric n ∷ u) e = cc e
-no_ids (AlphaNumeric t ∷ u) e = cc e
-
-ids_done : (u : List Id) (tail : List ℕ) → 0 ∷ tail ≡ ids_key u → u ≡ []
-ids_done [] tail e = refl
-ids_done (Numeric n ∷ u) tail e = absurd (omega (arith, ap first_of e))
-ids_done (AlphaNumeric t ∷ u) tail e = absurd (omega (arith, ap first_of e))
-
-ids_more : (u : List Id) (c : ℕ) (tail : List ℕ) → 0 < c → c ∷ tail ≡ ids_key u → (x : Id) × (v : List Id) × (u ≡ x ∷ v)
-ids_more [] c tail h e = absurd (omega (arith, ap first_of e))
-ids_more (x ∷ v) c tail h e = (x, v, refl)
-
-all_behind : (xs ys : List Id) → All IsId (xs ++ ys) → All IsId ys
-all_behind [] ys h = h
-all_behind (x ∷ xs) ys h = all_behind xs ys (All-tail IsId x (xs ++ ys) h)
-
-pub left_none : (whole so_far : List Id) (others : List ℕ) → length others ≡ 0 → AreLeft whole so_far others → ⊥
-left_none whole so_far [] e left = no_ids left.0 left.2
-left_none whole so_far (c ∷ others) e left = omega arith
-
-pub left_done : (whole so_far : List Id) (others tail : List ℕ) (c : ℕ) → others ≡ c ∷ tail → c ≡ 0 → AreLeft whole so_far others → so_far ≡ whole
-left_done whole so_far others tail c e f left =
-    let none = ids_done left.0 tail (ap (λ d. d ∷ tail) (sym f) ∙ (sym e ∙ left.2)) in
-    sym (left.1 ∙ (ap (λ k. so_far ++ k) none ∙ append-nil so_far))
-
--- the identifier that comes next
-pub record IsNext (whole so_far : List Id) (others : List ℕ) : Type 0 where
-  pub id : Id
-  pub behind : List Id
-  pub is_id : IsId id
-  pub whole_is : whole ≡ so_far ++ id ∷ behind
-  pub others_is : others ≡ id_key id ++ ids_key behind
-  pub is_low : IsLow (ids_key behind)
-
-pub left_next : (whole so_far : List Id) (others tail : List ℕ) (c : ℕ) → All IsId whole → others ≡ c ∷ tail → 0 < c
-    → AreLeft whole so_far others → IsNext whole so_far others
-left_next whole so_far others tail c all e h left =
-    let more = ids_more left.0 c tail h (sym e ∙ left.2) in
-    let divided : whole ≡ so_far ++ more.0 ∷ more.1 = left.1 ∙ ap (λ k. so_far ++ k) more.2 in
-    record {
-      id = more.0;
-      behind = more.1;
-      is_id = All-head IsId more.0 more.1 (all_behind so_far (more.0 ∷ more.1) (subst (λ w. All IsId w) divided all));
-      whole_is = divided;
-      others_is = left.2 ∙ ap ids_key more.2;
-      is_low = ids_start more.1;
-    }
-
-pub left_after : (whole so_far more : List Id) (others rest : List ℕ) (x : Id) (next : IsNext whole so_far others)
-    → more ≡ so_far ++ x ∷ [] → x ≡ next.id → rest ≡ ids_key next.behind → AreLeft whole more rest
-left_after whole so_far more others rest x next e f g = (
-  next.behind,
-  next.whole_is ∙ (sym (append_assoc so_far (next.id ∷ []) next.behind)
-      ∙ ap (λ k. k ++ next.behind) (ap (λ y. so_far ++ y ∷ []) (sym f) ∙ sym e)),
-  g,
-)
 
 -- ---- the bytes of numbers
 

@@ -1,12 +1,9 @@
 -- For private contracts: what is read at the front of a key.
-use Rattle.std.specs.Prelude.{◌<◌, ◌≡◌, ◌++◌, ◌∷◌, All, IsUtf8, List, None, Option, Some, Vec, ℕ}
+use Rattle.std.specs.Prelude.{◌<◌, ◌≡◌, ◌++◌, ◌∷◌, All, IsUtf8, List, None, Option, Some, ℕ}
 use Rattle.std.specs.Borrow.{Bor}
-use Rattle.std.specs.declared.alloc.Global.{Global}
 use Rattle.semver_core.specs.Keys.{id_key, ids_key, number_key, pre_key, text_key}
 use Rattle.semver_core.specs.Text.Identifiers.{Id}
 use Rattle.semver_core.specs.Values.Versions.{IsId}
-use Rattle.semver_core.specs.Values.Views.{id_view, ids_view}
-use Rattle.semver_core.specs.declared.identifier.Identifier.{Identifier}
 
 -- the list begins with a byte below 255
 pub data IsLow : List ℕ → Type 0 where
@@ -18,6 +15,13 @@ IsTextFront bytes rest = (text : List ℕ) × IsUtf8 text × (bytes ≡ text_key
 
 abbrev pub IsIdFront : List ℕ → List ℕ → Type 0
 IsIdFront bytes rest = (id : Id) × IsId id × (bytes ≡ id_key id ++ rest)
+
+-- the bytes are the key of a text, of an identifier
+abbrev pub IsTextKey : List ℕ → Type 0
+IsTextKey bytes = (text : List ℕ) × IsUtf8 text × (bytes ≡ text_key text)
+
+abbrev pub IsIdKey : List ℕ → Type 0
+IsIdKey bytes = (id : Id) × IsId id × (bytes ≡ id_key id)
 
 -- the bytes are the key of a list of identifiers, of a pre-release or its absence
 abbrev pub AreIds : List ℕ → Type 0
@@ -44,15 +48,3 @@ abbrev pub GivesNumbers : Option (ℕ × ℕ × ℕ × Bor (List ℕ)) → ℕ �
 GivesNumbers None major minor patch rest = ⊥
 GivesNumbers (Some found) major minor patch rest =
     (found.0 ≡ major) × (found.1 ≡ minor) × (found.2 ≡ patch) × (found.3.now ≡ rest)
-
-abbrev pub GivesText : Option (Vec ℕ Global × Bor (List ℕ)) → List ℕ → List ℕ → Type 0
-GivesText None text rest = ⊥
-GivesText (Some found) text rest = (found.0.items ≡ text) × (found.1.now ≡ rest)
-
-abbrev pub GivesId : Option (Identifier × Bor (List ℕ)) → Id → List ℕ → Type 0
-GivesId None id rest = ⊥
-GivesId (Some found) id rest = (id_view found.0 ≡ id) × (found.1.now ≡ rest)
-
-abbrev pub GivesIds : Option (Vec Identifier Global) → List Id → Type 0
-GivesIds None list = ⊥
-GivesIds (Some ids) list = ids_view ids.items ≡ list

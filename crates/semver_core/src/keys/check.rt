@@ -34,7 +34,9 @@ fn behind_text(bytes: &[u8]) -> Option<&[u8]>
 {
     let mut others = bytes;
     'text: loop {
-        let (piece, rest) = split_at_zero(others)?;
+        let Some((piece, rest)) = split_at_zero(others) else {
+            return None;
+        };
         if str::from_utf8(piece).is_err() {
             return None;
         }
@@ -46,15 +48,20 @@ fn behind_text(bytes: &[u8]) -> Option<&[u8]>
 }
 
 // What follows the identifier at the front of bytes.
-fn behind_id(bytes: &[u8]) -> Option<&[u8]>
+pub(crate) fn behind_id(bytes: &[u8]) -> Option<&[u8]>
     ensures sound { IfSome result (λ rest. IsIdFront bytes.now rest.now) }
     ensures complete { (rest : List ℕ) → IsLow rest → IsIdFront bytes.now rest
         → GivesRest result rest }
     ensures shorter { IfSome result (λ rest. length rest.now < length bytes.now) }
 {
-    let (first, tail) = bytes.split_first()?;
+    let Some((first, tail)) = bytes.split_first() else {
+        return None;
+    };
     match *first {
-        1 => Some(read_number(tail)?.1),
+        1 => match read_number(tail) {
+            Some((_, rest)) => Some(rest),
+            None => None,
+        },
         2 => behind_text(tail),
         _ => None,
     }
@@ -66,18 +73,10 @@ fn are_ids(bytes: &[u8]) -> bool
     ensures complete { AreIds bytes.now → IsTrue result }
 {
     let mut others = bytes;
-    'ids: loop {
-        let Some((first, tail)) = others.split_first() else {
-            return false;
-        };
-        if *first == 0 {
-            return tail.is_empty();
-        }
-        let Some(rest) = behind_id(others) else {
-            return false;
-        };
+    'ids: while let Some(rest) = behind_id(others) {
         others = rest;
     }
+    others.len() == 1 && others[0] == 0
 }
 
 // Whether the bytes are the key of a pre-release, or of its absence.

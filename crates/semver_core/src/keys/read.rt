@@ -1,14 +1,16 @@
 // Reading the parts of keys.
 
-ghost use Rattle.std.specs.Prelude.{◌≡◌, ◌<◌, ◌≤◌, ◌^◌, ◌∷◌, ◌++◌, ℕ, All, MatchOption};
+ghost use Rattle.std.specs.Prelude.{◌≡◌, ◌<◌, ◌≤◌, ◌^◌, ◌∷◌, ◌++◌, ℕ, MatchOption};
 ghost use Rattle.std.specs.Int.{to_be_bytes, w16, w32, w64};
 ghost use Rattle.semver_core.specs.Keys.{id_key, ids_key, number_key, pre_key, text_key};
-ghost use Rattle.semver_core.specs.Internal.KeyReading.{GivesId, GivesIds, GivesNumber};
-ghost use Rattle.semver_core.specs.Internal.KeyReading.{GivesNumbers, GivesText, IsLow, IsPre};
-ghost use Rattle.semver_core.specs.Internal.KeyReading.{numbers_key};
-ghost use Rattle.semver_core.specs.Values.Versions.{IsId};
-ghost use Rattle.semver_core.specs.Words.{[], Id, IfNone, IfOk, IfSome, length, List, OnErr};
+ghost use Rattle.semver_core.specs.Internal.KeyReading.{AreIds, GivesNumber, GivesNumbers};
+ghost use Rattle.semver_core.specs.Internal.KeyReading.{IsIdKey, IsPre, IsTextKey, numbers_key};
+ghost use Rattle.semver_core.specs.Values.Views.{id_view, ids_view};
+ghost use Rattle.semver_core.specs.Words.{[], IfNone, IfOk, IfSome, List, OnErr};
+ghost use Rattle.semver_core.specs.Words.{string_bytes};
 
+use crate::keys::check::behind_id;
+use crate::version::lists::{Lists, Qualifier};
 use crate::{Identifier, Version};
 use std::alloc::{AllocError, Global};
 
@@ -19,7 +21,9 @@ fn read_two(bytes: &[u8]) -> Option<(u64, &[u8])>
     ensures complete { (n : ℕ) (rest : List ℕ) → 251 ≤ n → n < 2 ^ 16
         → bytes.now ≡ to_be_bytes w16 n ++ rest → GivesNumber result n rest }
 {
-    let (number, rest) = bytes.split_first_chunk::<2>()?;
+    let Some((number, rest)) = bytes.split_first_chunk::<2>() else {
+        return None;
+    };
     let number = u64::from(u16::from_be_bytes(*number));
     if number < 251 {
         return None;
@@ -34,7 +38,9 @@ fn read_four(bytes: &[u8]) -> Option<(u64, &[u8])>
     ensures complete { (n : ℕ) (rest : List ℕ) → 2 ^ 16 ≤ n → n < 2 ^ 32
         → bytes.now ≡ to_be_bytes w32 n ++ rest → GivesNumber result n rest }
 {
-    let (number, rest) = bytes.split_first_chunk::<4>()?;
+    let Some((number, rest)) = bytes.split_first_chunk::<4>() else {
+        return None;
+    };
     let number = u64::from(u32::from_be_bytes(*number));
     if number < 1 << 16 {
         return None;
@@ -49,7 +55,9 @@ fn read_eight(bytes: &[u8]) -> Option<(u64, &[u8])>
     ensures complete { (n : ℕ) (rest : List ℕ) → 2 ^ 32 ≤ n → n < 2 ^ 64
         → bytes.now ≡ to_be_bytes w64 n ++ rest → GivesNumber result n rest }
 {
-    let (number, rest) = bytes.split_first_chunk::<8>()?;
+    let Some((number, rest)) = bytes.split_first_chunk::<8>() else {
+        return None;
+    };
     let number = u64::from_be_bytes(*number);
     if number < 1 << 32 {
         return None;
@@ -64,7 +72,9 @@ pub(crate) fn read_number(bytes: &[u8]) -> Option<(u64, &[u8])>
     ensures complete { (n : ℕ) (rest : List ℕ) → n < 2 ^ 64
         → bytes.now ≡ number_key n ++ rest → GivesNumber result n rest }
 {
-    let (first, tail) = bytes.split_first()?;
+    let Some((first, tail)) = bytes.split_first() else {
+        return None;
+    };
     let first = *first;
     if first < 251 {
         return Some((u64::from(first), tail));
@@ -85,9 +95,15 @@ pub(crate) fn read_numbers(bytes: &[u8]) -> Option<(u64, u64, u64, &[u8])>
         → minor < 2 ^ 64 → patch < 2 ^ 64 → bytes.now ≡ numbers_key major minor patch rest
         → GivesNumbers result major minor patch rest }
 {
-    let (major, rest) = read_number(bytes)?;
-    let (minor, rest) = read_number(rest)?;
-    let (patch, rest) = read_number(rest)?;
+    let Some((major, rest)) = read_number(bytes) else {
+        return None;
+    };
+    let Some((minor, rest)) = read_number(rest) else {
+        return None;
+    };
+    let Some((patch, rest)) = read_number(rest) else {
+        return None;
+    };
     Some((major, minor, patch, rest))
 }
 
@@ -96,86 +112,53 @@ pub(crate) fn behind_255(bytes: &[u8]) -> Option<&[u8]>
     ensures { MatchOption result ((rest : List ℕ) → ¬ (bytes.now ≡ 255 ∷ rest))
         (λ rest. bytes.now ≡ 255 ∷ rest.now) }
 {
-    let (first, tail) = bytes.split_first()?;
-    if *first == 255 { Some(tail) } else { None }
-}
-
-// The text at the front of bytes, and what follows its end.
-fn read_text(alloc: Global, bytes: &[u8]) -> Result<Option<(Vec<u8>, &[u8])>, AllocError>
-    ensures complete { IfOk result (λ found. (text rest : List ℕ) → IsLow rest
-        → bytes.now ≡ text_key text ++ rest → GivesText found text rest) }
-    ensures shorter { IfOk result (λ found. IfSome found (λ f.
-        length f.1.now ≤ length bytes.now)) }
-{
-    let mut text = Vec::new(alloc);
-    let mut others = bytes;
-    'text: loop {
-        let Some((first, tail)) = others.split_first() else {
-            return Ok(None);
-        };
-        if *first == 0 {
-            let Some(more) = behind_255(tail) else {
-                return Ok(Some((text, tail)));
-            };
-            text.push(0)?;
-            others = more;
-        } else {
-            text.push(*first)?;
-            others = tail;
-        }
+    match bytes.split_first() {
+        Some((255, tail)) => Some(tail),
+        _ => None,
     }
 }
 
-// The identifier at the front of bytes, and what follows.
-fn read_id(alloc: Global, bytes: &[u8]) -> Result<Option<(Identifier, &[u8])>, AllocError>
-    ensures complete { IfOk result (λ found. (id : Id) (rest : List ℕ) → IsId id → IsLow rest
-        → bytes.now ≡ id_key id ++ rest → GivesId found id rest) }
-    ensures shorter { IfOk result (λ found. IfSome found (λ f.
-        length f.1.now < length bytes.now)) }
+// The text of which this is the key.
+fn read_text(alloc: Global, key: &[u8]) -> Result<String, AllocError>
+    requires { IsTextKey key.now }
+    ensures { IfOk result (λ text. text_key (string_bytes text) ≡ key.now) }
 {
-    let Some((first, tail)) = bytes.split_first() else {
-        return Ok(None);
-    };
-    match *first {
-        1 => {
-            let Some((number, rest)) = read_number(tail) else {
-                return Ok(None);
-            };
-            Ok(Some((Identifier::Numeric(number), rest)))
+    let mut text = Vec::with_capacity(alloc, key.len())?;
+    for byte in key {
+        if *byte < 255 {
+            text.push_reserved(*byte);
         }
-        2 => {
-            let Some((text, rest)) = read_text(alloc, tail)? else {
-                return Ok(None);
-            };
-            let Ok(text) = String::from_utf8(text) else {
-                return Ok(None);
-            };
-            Ok(Some((Identifier::AlphaNumeric(text), rest)))
-        }
-        _ => Ok(None),
     }
+    text.pop();
+    Ok(String::from_utf8(text).unwrap())
 }
 
-// The identifiers up to their end, the byte 0.
-fn read_ids(alloc: Global, bytes: &[u8]) -> Result<Option<Vec<Identifier>>, AllocError>
-    ensures { IfOk result (λ found. (list : List Id) → All IsId list → bytes.now ≡ ids_key list
-        → GivesIds found list) }
+// The identifier of which this is the key.
+fn read_id(alloc: Global, key: &[u8]) -> Result<Identifier, AllocError>
+    requires { IsIdKey key.now }
+    ensures { IfOk result (λ id. id_key (id_view id) ≡ key.now) }
+{
+    let (first, tail) = key.split_first().unwrap();
+    if *first == 1 {
+        let (number, _) = read_number(tail).unwrap();
+        return Ok(Identifier::Numeric(number));
+    }
+    Ok(Identifier::AlphaNumeric(read_text(alloc, tail)?))
+}
+
+// The identifiers of which this is the key.
+fn read_ids(alloc: Global, key: &[u8]) -> Result<Vec<Identifier>, AllocError>
+    requires { AreIds key.now }
+    ensures { IfOk result (λ ids. ids_key (ids_view ids.items) ≡ key.now) }
 {
     let mut ids = Vec::new(alloc);
-    let mut others = bytes;
-    'ids: loop {
-        let Some((first, _)) = others.split_first() else {
-            return Ok(None);
-        };
-        if *first == 0 {
-            return Ok(Some(ids));
-        }
-        let Some((id, rest)) = read_id(alloc, others)? else {
-            return Ok(None);
-        };
+    let mut others = key;
+    'ids: while let Some(rest) = behind_id(others) {
+        let id = read_id(alloc, &others[..others.len() - rest.len()])?;
         ids.push(id)?;
         others = rest;
     }
+    Ok(ids)
 }
 
 // The version of three numbers and of the key of a pre-release, or of its absence.
@@ -195,11 +178,8 @@ pub(crate) fn read_version(
     if bytes.starts_with(&[3]) {
         return Ok(Some(Version::release(major, minor, patch)));
     }
-    let Some(pre_release) = read_ids(alloc, bytes)? else {
-        return Ok(None);
-    };
-    match Version::new(alloc, major, minor, patch, pre_release, Vec::new(alloc)) {
-        Ok(version) => Ok(Some(version)),
-        Err(_) => Err(AllocError),
-    }
+    let ids = read_ids(alloc, bytes)?;
+    let pre_len = ids.len();
+    let lists = Qualifier::Lists(Lists { ids, pre_len });
+    Ok(Some(Version::from_parts(major, minor, patch, lists)))
 }

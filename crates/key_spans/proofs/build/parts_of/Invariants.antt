@@ -1,8 +1,8 @@
-use Rattle.std.proofs.Common.{◌≡◌, ◌++◌, drop, map}
-use Rattle.key_spans.specs.Internal.Kinds.{stretch}
+use Rattle.std.proofs.Common.{◌≡◌, ◌++◌, drop}
+use Rattle.key_spans.specs.Internal.Kinds.{all_of_kind}
 use Rattle.nodejs_semver.specs.Internal.Shorthands.{spans_of}
 use Rattle.key_spans.proofs.build.parts_of.Given as goal
 
 abbrev pub invariant-loop-interval : goal.invariant-loop-interval
-invariant-loop-interval g l = l.parts.items ++ map (stretch l.kind) (spans_of g.V.Versioned.value (drop l.interval-index l.intervals))
-    ≡ map (stretch l.kind) (spans_of g.V.Versioned.value l.intervals)
+invariant-loop-interval g l = l.parts.items ++ all_of_kind l.kind (spans_of g.V.Versioned.value (drop l.interval-index l.intervals))
+    ≡ all_of_kind l.kind (spans_of g.V.Versioned.value l.intervals)

@@ -1,9 +1,9 @@
-use Rattle.std.proofs.Common.{◌≡◌, ◌∷◌, [], ap, not, sym, true≢false, ◌∙◌}
+use Rattle.std.proofs.Common.{◌≡◌, ◌∷◌, [], refl, sym, true≢false, ◌∙◌}
 use Rattle.std.specs.Prelude.{None, Some}
 use Rattle.semver_core.specs.Cuts.{Span}
 use Rattle.semver_core.specs.declared.cuts.bound.Bound.TheVariants.{Unbounded}
 use Rattle.semver_core.specs.Values.Versions.{VersionValue}
-use Rattle.key_spans.specs.Ranges.{IsIntervalOf, IsKeyOf, bound_at, is_next}
+use Rattle.key_spans.specs.Ranges.{IsIntervalOf, IsKeyOf, interval_of}
 use Rattle.key_spans.proofs.FromSpans.{interval_none, interval_some, no_stop}
 use Rattle.key_spans.proofs.ranges.interval_of.Goals as goal
 
@@ -25,37 +25,30 @@ returns-then-is_end-clause-some c =
     } in
     interval_some c.args.span.now made c.new.result c.new.ensures one
 
-one_of : (c : goal.After-new-2) → IsIntervalOf c.args.span.now (record { lower = c.bound_at-lower-2.result; upper = c.bound_at-upper.result })
+one_of : (c : goal.After-between) → IsIntervalOf c.args.span.now (interval_of c.args.span.now.releases_only c.in-Some.first (Some c.in-Some-2.last))
 one_of c = record {
   first = c.in-Some.first;
   last = Some c.in-Some-2.last;
   starts = record {
-    is_version = c.bound_at-lower-2.ensures.valid;
+    is_version = c.between.ensures.first;
     is_key = (rw c.in-Some.is at c.in_ok-first.ensures.some) ∙ c.deref.ensures.value;
     no_build = rw c.in-Some.is at c.in_ok-first.ensures.no_build;
   };
   ends = record {
-    is_version = c.bound_at-upper.ensures.valid;
+    is_version = c.between.ensures.last;
     is_key = (rw c.in-Some-2.is at c.in_ok-last.ensures.some) ∙ c.deref-3.ensures.value;
     no_build = rw c.in-Some-2.is at c.in_ok-last.ensures.no_build;
   };
-  value = λ j. record {
-    lower = (c.bound_at-lower-2.ensures.value
-        ∙ ap (λ b. bound_at (is_next c.args.span.now.releases_only (not b) c.in-Some.first) c.in-Some.first) c.have_one_triple-is_apart.ensures) j;
-    upper = (c.bound_at-upper.ensures.value
-        ∙ ap (λ b. bound_at (is_next c.args.span.now.releases_only (not b) c.in-Some-2.last) c.in-Some-2.last) c.have_one_triple-is_apart.ensures) j;
-  };
+  value = refl;
 }
 
-pub returns-clause-some : goal.returns-clause-some
-returns-clause-some c = interval_some c.args.span.now (record { lower = c.bound_at-lower-2.result; upper = c.bound_at-upper.result }) c.new-2.result
-    c.new-2.ensures (one_of c)
+pub returns-in-Some-2-clause-some : goal.returns-in-Some-2-clause-some
+returns-in-Some-2-clause-some c = interval_some c.args.span.now _ c.between.result c.between.ensures.value (one_of c)
 
-pub returns-clause-none : goal.returns-clause-none
-returns-clause-none c = interval_none c.args.span.now (record { lower = c.bound_at-lower-2.result; upper = c.bound_at-upper.result }) c.new-2.result
-    c.new-2.ensures (one_of c)
+pub returns-in-Some-2-clause-none : goal.returns-in-Some-2-clause-none
+returns-in-Some-2-clause-none c = interval_none c.args.span.now _ c.between.result c.between.ensures.value (one_of c)
 
-pub returns-in_default-2-clause-none : goal.returns-in_default-2-clause-none
-returns-in_default-2-clause-none c = no_stop c.args.span.now
+pub returns-in-None-clause-none : goal.returns-in-None-clause-none
+returns-in-None-clause-none c = no_stop c.args.span.now
     (λ e. true≢false (sym (c.is_end.ensures.1 (c.deref-2.ensures.value ∙ e)) ∙ c.if-is_end.false))
-    (λ v k e. (rw c.in_default-2.is at c.in_ok-last.ensures.none) v k (e ∙ sym c.deref-3.ensures.value))
+    (λ v k e. (rw c.in-None.is at c.in_ok-last.ensures.none) v k (e ∙ sym c.deref-3.ensures.value))

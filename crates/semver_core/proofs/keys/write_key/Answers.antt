@@ -19,6 +19,3 @@ returns-clause-added g c = grind (arith, common_steps)
 
 pub returns-in_err-reserve-clause-memory : goal.returns-in_err-reserve-clause-memory
 returns-in_err-reserve-clause-memory g c = grind (arith, common_steps)
-
-pub returns-in_default-clause-memory : goal.returns-in_default-clause-memory
-returns-in_default-clause-memory g c = grind (arith, common_steps)

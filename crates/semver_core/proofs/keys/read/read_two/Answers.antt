@@ -6,7 +6,7 @@ pub returns-clause-sound : goal.returns-clause-sound
 returns-clause-sound c = (
   omega (arith, c.if-number-lt251.false),
   omega (arith, c.from-number.ensures, c.from_be_bytes.type_inv),
-  two_spelled c.args.bytes.now c.in_ok-number.number.now c.in_ok-number.rest.now c.from-number.result
-      c.in_ok-number.ensures.cases.0 c.in_ok-number.ensures.cases.1 c.in_ok-number.ensures.cases.2
+  two_spelled c.args.bytes.now c.in-Some.number.now c.in-Some.rest.now c.from-number.result
+      c.in-Some.ensures.cases.0 c.in-Some.ensures.cases.1 c.in-Some.ensures.cases.2
       (λ i. omega (arith, c.type_inv.bytes i)) (c.from-number.ensures ∙ c.from_be_bytes.ensures),
 )

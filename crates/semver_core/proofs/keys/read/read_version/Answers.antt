@@ -1,26 +1,14 @@
-use Rattle.std.proofs.Common.{◌≡◌, ◌∷◌, [], arith, false, ℕ, List, nat_eq}
-use Rattle.std.proofs.lemmas.Grind.{common_steps}
-use Rattle.std.specs.List.{starts_with}
-use Rattle.semver_core.specs.Keys.{ids_key, pre_key}
-use Rattle.semver_core.specs.Text.Identifiers.{Id}
+use Rattle.std.proofs.Common.{sym, ◌∙◌}
+use Rattle.std.proofs.lemmas.List.{length-map}
+use Rattle.semver_core.proofs.Encoding.Checking.{ids_of_pre, version_made}
+use Rattle.semver_core.specs.Values.Views.{id_view, ids_view}
 use Rattle.semver_core.proofs.keys.read.read_version.Goals as goal
 
--- what does not begin with the byte 3 is the key of identifiers
-of_ids : (bytes : List ℕ) (list : List Id) → bytes ≡ pre_key list → false ≡ starts_with nat_eq bytes (3 ∷ []) → bytes ≡ ids_key list
-of_ids bytes [] e other = cc
-of_ids bytes (id ∷ ids) e other = e
+pub read_ids-requires : goal.read_ids-requires
+read_ids-requires c = ids_of_pre c.args.bytes.now c.requires c.if-starts_with.ensures.value
 
-pub returns-in_default-clause-none : goal.returns-in_default-clause-none
-returns-in_default-clause-none c =
-    let ids = of_ids _ c.requires.0 c.requires.2 c.if-starts_with.ensures.value in
-    rw c.in_default.is at (c.in_ok-pre_release.ensures c.requires.0 c.requires.1 ids)
-
-pub returns-in-Ok-clause-some : goal.returns-in-Ok-clause-some
-returns-in-Ok-clause-some c =
-    let is = c.requires.2 in
-    let ids = of_ids _ c.requires.0 is c.if-starts_with.ensures.value in
-    let given = rw c.in-Some.is at (c.in_ok-pre_release.ensures c.requires.0 c.requires.1 ids) in
-    grind (arith, common_steps, given, is)
-
-pub returns-clause-memory : goal.returns-clause-memory
-returns-clause-memory c = grind (arith, common_steps)
+pub returns-clause-some : goal.returns-clause-some
+returns-clause-some c =
+    let ids = c.in_ok-ids.ids in
+    version_made c.from_parts.result c.args.major c.args.minor c.args.patch c.len-pre_len.result (ids_view ids.items) c.args.bytes.now
+    c.from_parts.ensures (c.len-pre_len.ensures ∙ (ids.ok.0 ∙ sym (length-map ids.items id_view))) c.requires c.in_ok-ids.ensures
