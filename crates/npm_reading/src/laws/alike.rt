@@ -41,8 +41,8 @@ pub fn npm_reads_alike()
         → accepts list v false ≡ Npm.accepts false alternatives v }
 {}
 
-/// Whether the range that `RangeRef::parse` reads in the text satisfies the version, and whether the
-/// one that `npm_reading::range` reads does.
+/// Whether the range that `RangeRef::parse` reads in the text satisfies the version, and whether
+/// the one that `npm_reading::range` reads does.
 ///
 /// - `here`: the first says whether the intervals that the text means accept the version.
 /// - `there`: the second says whether its alternatives to node-semver do.
