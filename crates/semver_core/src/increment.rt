@@ -150,6 +150,21 @@ struct PartsRef<'a> {
     build: IdentifierRefs<'a>,
 }
 
+impl<'a> PartsRef<'a> {
+    #[inline(always)]
+    fn of(version: &'a Version) -> PartsRef<'a>
+        ensures { parts_ref_value result ≡ version.now }
+    {
+        PartsRef {
+            major: version.major(),
+            minor: version.minor(),
+            patch: version.patch(),
+            pre_release: IdentifierRefs::of_items(version.pre_release()),
+            build: IdentifierRefs::of_items(version.build()),
+        }
+    }
+}
+
 // The checks of a word that begins with `pre`, and then the word. No identifier is an empty one,
 // and no base is `Value(0)`.
 fn next_of<'a>(
@@ -226,14 +241,7 @@ impl Version {
             (option_copied identifier.entry) base in
             MemoryOnlyIf result ((answer ≢ Err spec.Overflow) × IfOk answer HasIdentifiers) }
     {
-        let version = PartsRef {
-            major: self.major(),
-            minor: self.minor(),
-            patch: self.patch(),
-            pre_release: IdentifierRefs::of_items(self.pre_release()),
-            build: IdentifierRefs::of_items(self.build()),
-        };
-        let next = next_of(alloc, version, word, identifier, base)?;
+        let next = next_of(alloc, PartsRef::of(self), word, identifier, base)?;
         Ok(next.to_version(alloc)?)
     }
 }
