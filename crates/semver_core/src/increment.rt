@@ -9,13 +9,15 @@ ghost use Rattle.semver_core.specs.Internal.IncrementSteps as steps;
 
 use crate::increment::levels::by_word;
 use crate::increment::next::NextVersion;
-use crate::{Failure, Identifier, IdentifierRefs, Version, VersionRef};
+use crate::increment::parts_ref::PartsRef;
+use crate::{Failure, Identifier, Version, VersionRef};
 use std::alloc::{AllocError, Global};
 use thiserror::Error;
 
 mod levels;
 pub mod next;
 pub mod next_ids;
+mod parts_ref;
 mod pre_release;
 
 /// What a new pre-release list begins to count with.
@@ -140,31 +142,6 @@ fn check(alloc: Global, id: &str, base: IdentifierBase) -> Result<(), Failure<In
     }
 }
 
-// The version that a word is asked of: its five values, the identifiers where they stand.
-#[derive(Drop)]
-struct PartsRef<'a> {
-    major: u64,
-    minor: u64,
-    patch: u64,
-    pre_release: IdentifierRefs<'a>,
-    build: IdentifierRefs<'a>,
-}
-
-impl<'a> PartsRef<'a> {
-    #[inline(always)]
-    fn of(version: &'a Version) -> PartsRef<'a>
-        ensures { parts_ref_value result ≡ version.now }
-    {
-        PartsRef {
-            major: version.major(),
-            minor: version.minor(),
-            patch: version.patch(),
-            pre_release: IdentifierRefs::of_items(version.pre_release()),
-            build: IdentifierRefs::of_items(version.build()),
-        }
-    }
-}
-
 // The checks of a word that begins with `pre`, and then the word. No identifier is an empty one,
 // and no base is `Value(0)`.
 fn next_of<'a>(
@@ -272,14 +249,7 @@ impl<'a> VersionRef<'a> {
             (option_copied identifier.entry) base in
             MemoryOnlyIf result ((answer ≢ Err spec.Overflow) × IfOk answer (λ next. ⊥)) }
     {
-        let version = PartsRef {
-            major: self.major(),
-            minor: self.minor(),
-            patch: self.patch(),
-            pre_release: self.pre_release(),
-            build: self.build(),
-        };
-        next_of(alloc, version, word, identifier, base)
+        next_of(alloc, PartsRef::of_ref(self), word, identifier, base)
     }
 
     /// The next version by a word, as `Version::inc` returns it. It has identifiers of its own.
@@ -305,7 +275,7 @@ impl<'a> VersionRef<'a> {
             (option_copied identifier.entry) base in
             MemoryOnlyIf result ((answer ≢ Err spec.Overflow) × IfOk answer HasIdentifiers) }
     {
-        let next = self.next(alloc, word, identifier, base)?;
+        let next = next_of(alloc, PartsRef::of_ref(self), word, identifier, base)?;
         Ok(next.to_version(alloc)?)
     }
 }

@@ -1,6 +1,6 @@
 -- When an allocation may fail in `inc`.
 use Rattle.semver_core.proofs.Common.{Err, Failure, Fault, IfOk, IncrementError, MayAllocate, Memory, MemoryOnlyIf, Ok, Overflow}
-use Rattle.semver_core.proofs.Common.{Refused, Result, Returns, VersionValue, ◌≢◌}
+use Rattle.semver_core.proofs.Common.{Refused, Result, VersionValue, ◌≢◌}
 use Rattle.semver_core.specs.Internal.IncrementSteps.{IsAnswer}
 
 -- in the words of the public clauses
@@ -15,15 +15,3 @@ pub answered : (P : VersionValue → Type 0) (answer : Result VersionValue Fault
 answered P answer (Ok v) h = tt
 answered P answer (Err (Refused e)) h = tt
 answered P answer (Err (Memory e)) h = may_allocate P answer h
-
-pub returned : (answer : Result VersionValue Fault) (r : Result VersionValue (Failure IncrementError)) → IsAnswer answer r → Returns answer r
-returned answer (Ok v) h = h
-returned answer (Err (Refused e)) h = h
-returned answer (Err (Memory e)) h = tt
-
-pub weaker : {A : Type 0} (P : VersionValue → Type 0) (answer : Result VersionValue Fault) (r : Result A (Failure IncrementError))
-    → MemoryOnlyIf r ((answer ≢ Err Overflow) × IfOk answer (λ next. ⊥)) → MemoryOnlyIf r ((answer ≢ Err Overflow) × IfOk answer P)
-weaker P answer (Ok v) h = tt
-weaker P answer (Err (Refused e)) h = tt
-weaker P (Ok v) (Err (Memory e)) h = absurd h.1
-weaker P (Err fault) (Err (Memory e)) h = (h.0, tt)

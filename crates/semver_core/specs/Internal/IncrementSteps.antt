@@ -17,7 +17,7 @@ use Rattle.semver_core.specs.declared.increment.IdentifierBase.{IdentifierBase}
 use Rattle.semver_core.specs.declared.increment.IncrementError.{IncrementError}
 use Rattle.semver_core.specs.declared.increment.levels.Level.{Level}
 use Rattle.semver_core.specs.declared.increment.levels.Level.TheVariants.{Major, Minor, Patch}
-use Rattle.semver_core.specs.declared.increment.PartsRef.{PartsRef}
+use Rattle.semver_core.specs.declared.increment.parts_ref.PartsRef.{PartsRef}
 use Rattle.semver_core.specs.Internal.NextIds.{numbered}
 
 -- the five values of a version whose identifiers stand elsewhere

@@ -3,7 +3,7 @@
 ghost use Rattle.std.specs.Prelude.{◌≡◌, ◌++◌, ◌<◌, ◌≤◌, IfOk, OnErr};
 ghost use Rattle.semver_core.specs.Words.{is_listed, item_count, lent_id_view, OnOk, YieldsFirstBy};
 ghost use Rattle.semver_core.specs.Words.{id_cmp, id_ref_view, ids_view, is_empty, slice_cmp};
-ghost use Rattle.semver_core.specs.Words.{HasText, IfSome, is_normal, length, list_all, listed};
+ghost use Rattle.semver_core.specs.Words.{[], HasText, IfSome, is_normal, length, list_all, listed};
 ghost use Rattle.semver_core.specs.Words.{begins_padded_run, has_padded, id_text, join_with_byte};
 ghost use Rattle.semver_core.specs.Words.{map, true};
 
@@ -46,6 +46,16 @@ impl<'a> IdentifierRefs<'a> {
         ensures { result ≡ ids_view items.now }
     {
         let source = Source::Items(items);
+        IdentifierRefs { source }
+    }
+
+    // No identifier.
+    #[inline(always)]
+    #[tactic(auto, using(crate::proofs::Text::Ends::lists_cut))]
+    pub(crate) fn none() -> IdentifierRefs<'a>
+        ensures { result ≡ [] }
+    {
+        let source = Source::Text(b"");
         IdentifierRefs { source }
     }
 

@@ -7,8 +7,9 @@ ghost use Rattle.semver_core.specs.Internal.IncrementSteps as steps;
 
 use crate::increment::next::NextVersion;
 use crate::increment::next_ids::NextIds;
+use crate::increment::parts_ref::PartsRef;
 use crate::increment::pre_release::{advance, is_kept};
-use crate::increment::{IdentifierBase, IncrementError, PartsRef, one_more, refused_argument};
+use crate::increment::{IdentifierBase, IncrementError, one_more, refused_argument};
 use crate::{Failure, IdentifierRefs};
 use std::alloc::Global;
 
@@ -32,11 +33,7 @@ pub(super) fn by_word<'a>(
         "prepatch" => Some(Level::Patch),
         "prerelease" if version.pre_release.is_empty() => Some(Level::Patch),
         "prerelease" | "pre" => None,
-        "release" if version.pre_release.is_empty() => {
-            let text = release_of(version).to_version(alloc)?.to_string(alloc)?;
-            return Err(Failure::Refused(IncrementError::NotAPrerelease(text)));
-        }
-        "release" => return Ok(release_of(version)),
+        "release" => return release(alloc, version),
         _ => return Err(refused_argument(alloc, word)),
     };
     let start = match level {
@@ -68,21 +65,29 @@ fn release_after<'a>(
 {
     let (major, minor, patch) = (version.major, version.minor, version.patch);
     let stays = own && !version.pre_release.is_empty();
-    let (major, minor, patch) = match level {
-        Level::Major if stays && minor == 0 && patch == 0 => (major, 0, 0),
-        Level::Major => (one_more(major)?, 0, 0),
-        Level::Minor if stays && patch == 0 => (major, minor, 0),
-        Level::Minor => (major, one_more(minor)?, 0),
-        Level::Patch if stays => (major, minor, patch),
-        Level::Patch => (major, minor, one_more(patch)?),
-    };
-    Ok(PartsRef {
-        major,
-        minor,
-        patch,
-        pre_release: IdentifierRefs::of_items(&[]),
-        build: version.build.copy(),
+    Ok(match level {
+        Level::Major if stays && minor == 0 && patch == 0 => version.with_numbers(major, 0, 0),
+        Level::Major => version.with_numbers(one_more(major)?, 0, 0),
+        Level::Minor if stays && patch == 0 => version.with_numbers(major, minor, 0),
+        Level::Minor => version.with_numbers(major, one_more(minor)?, 0),
+        Level::Patch if stays => version.with_numbers(major, minor, patch),
+        Level::Patch => version.with_numbers(major, minor, one_more(patch)?),
     })
+}
+
+fn release<'a>(
+    alloc: Global,
+    version: PartsRef<'a>,
+) -> Result<NextVersion<'a>, Failure<IncrementError>>
+    ensures { steps.IsAnswer (steps.by_release (parts_ref_value version.entry)) result }
+{
+    let is_release = version.pre_release.is_empty();
+    let release = release_of(version);
+    if is_release {
+        let text = release.to_version(alloc)?.to_string(alloc)?;
+        return Err(Failure::Refused(IncrementError::NotAPrerelease(text)));
+    }
+    Ok(release)
 }
 
 // The release of the same numbers.
@@ -90,7 +95,7 @@ fn release_after<'a>(
 fn release_of<'a>(version: PartsRef<'a>) -> NextVersion<'a>
     ensures { result ≡ spec.release_of (parts_ref_value version.entry) }
 {
-    NextVersion::of(version, NextIds::of(IdentifierRefs::of_items(&[]), None, 0))
+    NextVersion::of(version, NextIds::of(IdentifierRefs::none(), None, 0))
 }
 
 // The pre-release of the same numbers that comes next.

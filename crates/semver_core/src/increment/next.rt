@@ -3,8 +3,8 @@
 ghost use Rattle.std.specs.Prelude.{◌≡◌, IfOk, OnErr};
 ghost use Rattle.semver_core.specs.Words.{HasIdentifiers, release_value};
 
-use crate::increment::PartsRef;
 use crate::increment::next_ids::NextIds;
+use crate::increment::parts_ref::PartsRef;
 use crate::version::lists::{Lists, Qualifier};
 use crate::{IdentifierRefs, Version};
 use std::alloc::{AllocError, Global};

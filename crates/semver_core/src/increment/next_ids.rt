@@ -58,7 +58,7 @@ impl<'a> NextIds<'a> {
     {
         NextIds {
             asked: Some(id),
-            ids: IdentifierRefs::of_items(&[]),
+            ids: IdentifierRefs::none(),
             number: match base {
                 IdentifierBase::False => None,
                 IdentifierBase::Value(_) => Some(first_number(base)),

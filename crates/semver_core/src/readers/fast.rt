@@ -46,7 +46,7 @@ fn three_numbers<R: Reach>(bytes: &[u8], at: usize) -> Option<(u64, u64, u64, us
     Some((major, minor, patch, end))
 }
 
-// The numbers of `triple_front` in a text that no line feed ends.
+// The numbers of `leading_triple` in a text that no line feed ends.
 #[inline(never)]
 fn text_triple(text: &[u8]) -> Option<(u64, u64, u64, usize)>
     ensures found { result ≡ triple_at MAX_SAFE_INTEGER text.now 0 }
@@ -55,11 +55,23 @@ fn text_triple(text: &[u8]) -> Option<(u64, u64, u64, usize)>
     three_numbers::<OfText>(text, 0)
 }
 
+// The numbers of `triple_front`, and the place behind them.
+#[inline(always)]
+#[tactic(auto, using(crate::proofs::Text::Digits::last_feed))]
+fn leading_triple(text: &[u8]) -> Option<(u64, u64, u64, usize)>
+    ensures found { result ≡ triple_at MAX_SAFE_INTEGER text.now 0 }
+    ensures place { IfSome result (λ found. found.3 ≤ length text.now) }
+{
+    match text {
+        [.., b'\n'] => three_numbers::<OfLines>(text, 0),
+        _ => text_triple(text),
+    }
+}
+
 /// Returns the three numbers joined by dots that a text begins with, and what follows them: of
 /// `1.2.3-beta` they are 1, 2, 3 and `-beta`. Lines of which the last one ends with a line feed are
 /// read with no test for their end. This is for the crates of this repository.
 #[inline(always)]
-#[tactic(auto, using(crate::proofs::Text::Digits::last_feed))]
 pub fn triple_front(text: &[u8]) -> Option<(u64, u64, u64, &[u8])>
     ensures some { IfSome result (λ found.
         IsTriple MAX_SAFE_INTEGER text.now found.0 found.1 found.2 found.3.now) }
@@ -67,11 +79,7 @@ pub fn triple_front(text: &[u8]) -> Option<(u64, u64, u64, &[u8])>
     ensures none { IfNone result ((M m p : ℕ) (rest : List ℕ) →
         IsTriple MAX_SAFE_INTEGER text.now M m p rest → ⊥) }
 {
-    let numbers = match text {
-        [.., b'\n'] => three_numbers::<OfLines>(text, 0),
-        _ => text_triple(text),
-    };
-    let (major, minor, patch, end) = numbers?;
+    let (major, minor, patch, end) = leading_triple(text)?;
     Some((major, minor, patch, &text[end..]))
 }
 

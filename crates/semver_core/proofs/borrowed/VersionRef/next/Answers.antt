@@ -1,8 +1,5 @@
-use Rattle.semver_core.proofs.Increments.Memory.{answered, returned}
+use Rattle.semver_core.proofs.Increments.Memory.{answered}
 use Rattle.semver_core.proofs.borrowed.VersionRef.next.Goals as goal
 
-pub returns : goal.returns
-returns c =
-    let said = rw (c.major.ensures.value, c.minor.ensures.value, c.patch.ensures.value, c.pre_release.ensures.value, c.build.ensures.value) at
-    c.next_of.ensures in
-    record { value = returned _ _ said; memory = answered (λ next. ⊥) _ _ said }
+pub returns-clause-memory : goal.returns-clause-memory
+returns-clause-memory c = rw (← c.of_ref.ensures) (answered (λ next. ⊥) _ _ c.next_of.ensures)
