@@ -75,8 +75,9 @@ fn find<S: Alter>(
     found: &mut Vec<Found>,
 ) -> Result<(), Error>
     ensures clean { HasCleanDisk (state S.Store conn.new) → HasCleanDisk (state S.Store conn.old) }
-    ensures told { HasCleanDisk (state S.Store conn.new) → OnOk result ((rows : List Values) × Shown query.now
-        (asked name.now span.now) (state S.Store conn.old) (state S.Store conn.new) rows
+    ensures told { HasCleanDisk (state S.Store conn.new) → OnOk result
+        ((rows : List Values) × Shown query.now (asked name.now span.now)
+        (state S.Store conn.old) (state S.Store conn.new) rows
         × (map row_of found.new.items ≡ map row_of found.old.items ++ map (take 3) rows)) }
 {
     let rows = conn.query_all(

@@ -1,7 +1,7 @@
 // The subcommands on spans of keys: lines of them, and a condition of SQL.
 
-ghost use Rattle.std.specs.Prelude.{◌≡◌, ◌++◌, ◌∷◌, [], ℕ, IfOk, List, None, OnOk, Some, codes, map};
-ghost use Rattle.std.specs.Prelude.{false, if◌then◌else◌, string_bytes, true};
+ghost use Rattle.std.specs.Prelude.{◌≡◌, ◌++◌, ◌∷◌, [], ℕ, IfOk, List, None, OnOk, Some};
+ghost use Rattle.std.specs.Prelude.{codes, false, map, if◌then◌else◌, string_bytes, true};
 ghost use Rattle.std.specs.List.{flat_map};
 ghost use Rattle.hex.specs.Hex.{encode_lower};
 ghost use Rattle.semver_core.specs.Failures.{NoValue, RefusedOnlyIf};
