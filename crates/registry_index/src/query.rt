@@ -4,7 +4,6 @@ ghost use Rattle.std.specs.Prelude.{◌≡◌, false, IfNone, IfOk, IfSome, IsSo
 ghost use Rattle.key_spans.specs.Spans.{in_spans};
 ghost use Rattle.nodejs_semver.specs.Ranges.Gate.{accepts};
 ghost use Rattle.npm_words.specs.Alternatives.{HasAlternativesIn};
-ghost use Rattle.npm_reading.specs.Ranges.{IsRangeIn};
 ghost use Rattle.registry_index.specs.Bound.{AreSpansOf};
 ghost use Rattle.semver_core.specs.Failures.{NoValue};
 ghost use Rattle.semver_core.specs.Keys.{key};
@@ -40,9 +39,14 @@ pub fn spans_of(alloc: Global, text: &str) -> Result<Option<Vec<KeySpan>>, Alloc
     ensures none { IfOk result (λ r. IfNone r
         (NoValue (HasAlternativesIn false MAX_SAFE_INTEGER false text.now))) }
 {
-    match read_range(alloc, text)? {
-        Some(range) => spans_in(alloc, &range),
-        None => Ok(None),
+    let reading = Reading {
+        loose: false,
+        include_prerelease: false,
+    };
+    match npm_reading::range(alloc, text, reading) {
+        Ok(range) => spans_in(alloc, &range),
+        Err(Failure::Refused(_)) => Ok(None),
+        Err(Failure::Memory(error)) => Err(error),
     }
 }
 
@@ -52,18 +56,4 @@ fn spans_in(alloc: Global, range: &RangeRef<'_>) -> Result<Option<Vec<KeySpan>>,
         → in_spans spans.items (key v) ≡ accepts range.now v false)) }
 {
     Ok(Some(key_spans(alloc, range, false)?))
-}
-
-// The range that npm reads in a text, or `None` if it rejects the text.
-fn read_range(alloc: Global, text: &str) -> Result<Option<RangeRef<'_>>, AllocError>
-    ensures some { IfOk result (λ r. IfSome r
-        (IsRangeIn false MAX_SAFE_INTEGER false text.now)) }
-    ensures none { IfOk result (λ r. IfNone r
-        (NoValue (HasAlternativesIn false MAX_SAFE_INTEGER false text.now))) }
-{
-    let reading = Reading {
-        loose: false,
-        include_prerelease: false,
-    };
-    Failure::refused_as_none(npm_reading::range(alloc, text, reading))
 }

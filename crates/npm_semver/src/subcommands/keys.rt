@@ -1,11 +1,12 @@
 // The subcommands on keys: bytes that compare as versions do, in hexadecimal.
 
 ghost use Rattle.std.specs.Prelude.{◌≡◌, ◌++◌, ◌∷◌, ℕ, List, IfNone, IfOk, IfSome, None};
-ghost use Rattle.std.specs.Prelude.{[], Ok, Some, codes, false, map, string_bytes, true};
+ghost use Rattle.std.specs.Prelude.{[], Ok, OnOk, Some, codes, false, map, string_bytes, true};
 ghost use Rattle.std.specs.Str.Lines.{lines};
-ghost use Rattle.hex.specs.Hex.{decode_of};
+ghost use Rattle.hex.specs.Hex.{decode_of, encode_lower};
 ghost use Rattle.semver_core.specs.Failures.{NoValue, RefusedOnlyIf};
 ghost use Rattle.semver_core.specs.Keys.{key};
+ghost use Rattle.semver_core.specs.Printing.Text.{version_text};
 ghost use Rattle.semver_core.specs.Values.Versions.{IsVersion, VersionValue};
 ghost use Rattle.semver_core.specs.declared.TheConstants.{MAX_SAFE_INTEGER};
 ghost use Rattle.npm_words.specs.VersionText.{IsVersionText};
@@ -139,72 +140,95 @@ fn push_row(alloc: Global, row: Row, text: &str, output: &mut String) -> Result<
         × (string_bytes output.new ≡ string_bytes output.old ++ line shown)) }
     ensures none { IfOk result (λ has. has ≡ false → NoValue (has_row row text.now)) }
 {
-    let Some(shown) = shown(alloc, row, text)? else {
-        return Ok(false);
-    };
-    output.push_str(&shown)?;
-    output.push('\n')?;
-    Ok(true)
+    let has = push_shown(alloc, row, text, output)?;
+    if has {
+        output.push('\n')?;
+    }
+    Ok(has)
 }
 
-// What the line of a text shows, or `None` if the text has no line.
-fn shown(alloc: Global, row: Row, text: &str) -> Result<Option<String>, AllocError>
-    ensures some { IfOk result (λ found.
-        IfSome found (λ shown. has_row row text.now (string_bytes shown))) }
-    ensures none { IfOk result (λ found. IfNone found (NoValue (has_row row text.now))) }
+// Appends what the line of a text shows.
+fn push_shown(alloc: Global, row: Row, text: &str, output: &mut String) -> Result<bool, AllocError>
+    ensures some { IfOk result (λ has. has ≡ true → (shown : List ℕ) × has_row row text.now shown
+        × (string_bytes output.new ≡ string_bytes output.old ++ shown)) }
+    ensures none { IfOk result (λ has. has ≡ false → NoValue (has_row row text.now)) }
 {
     match row {
-        Row::Key => key_of(alloc, text),
-        Row::KeyAndText => key_and_text(alloc, text),
-        Row::Version => version_of(alloc, text),
+        Row::Key => push_key(alloc, text, output),
+        Row::KeyAndText => push_key_and_text(alloc, text, output),
+        Row::Version => push_version_of(alloc, text, output),
     }
 }
 
-// The key of the version that a text is, in hexadecimal.
-fn key_of(alloc: Global, text: &str) -> Result<Option<String>, AllocError>
-    ensures some { IfOk result (λ found.
-        IfSome found (λ shown. HasKey text.now (string_bytes shown))) }
-    ensures none { IfOk result (λ found. IfNone found (NoValue (HasKey text.now))) }
+// Appends the key of the version that a text is, in hexadecimal.
+fn push_key(alloc: Global, text: &str, output: &mut String) -> Result<bool, AllocError>
+    ensures some { IfOk result (λ has. has ≡ true → (shown : List ℕ) × HasKey text.now shown
+        × (string_bytes output.new ≡ string_bytes output.old ++ shown)) }
+    ensures none { IfOk result (λ has. has ≡ false → NoValue (HasKey text.now)) }
 {
     let strict = Reading {
         loose: false,
         include_prerelease: false,
     };
     let Ok(version) = npm_reading::version(text, strict) else {
-        return Ok(None);
+        return Ok(false);
     };
     let key = version.key(alloc)?;
-    Ok(Some(hex::encode(alloc, key)?))
+    write_hex(alloc, &key, output)?;
+    Ok(true)
+}
+
+/// Appends bytes in hexadecimal.
+pub fn write_hex(alloc: Global, bytes: &[u8], output: &mut String) -> Result<(), AllocError>
+    ensures { OnOk result (string_bytes output.new
+        ≡ string_bytes output.old ++ encode_lower bytes.now) }
+{
+    let digits = hex::encode(alloc, bytes)?;
+    output.push_str(&digits)
 }
 
 // The same with the text behind it, after a tab.
-fn key_and_text(alloc: Global, text: &str) -> Result<Option<String>, AllocError>
-    ensures some { IfOk result (λ found.
-        IfSome found (λ shown. HasKeyAndText text.now (string_bytes shown))) }
-    ensures none { IfOk result (λ found. IfNone found (NoValue (HasKeyAndText text.now))) }
+fn push_key_and_text(alloc: Global, text: &str, output: &mut String) -> Result<bool, AllocError>
+    ensures some { IfOk result (λ has. has ≡ true
+        → (shown : List ℕ) × HasKeyAndText text.now shown
+        × (string_bytes output.new ≡ string_bytes output.old ++ shown)) }
+    ensures none { IfOk result (λ has. has ≡ false → NoValue (HasKeyAndText text.now)) }
 {
-    let Some(mut shown) = key_of(alloc, text)? else {
-        return Ok(None);
-    };
-    shown.push('\t')?;
-    shown.push_str(text)?;
-    Ok(Some(shown))
+    if !push_key(alloc, text, output)? {
+        return Ok(false);
+    }
+    output.push('\t')?;
+    output.push_str(text)?;
+    Ok(true)
 }
 
-// The text of the version whose key a text is, if npm reads it.
-fn version_of(alloc: Global, text: &str) -> Result<Option<String>, AllocError>
-    ensures some { IfOk result (λ found.
-        IfSome found (λ shown. HasVersion text.now (string_bytes shown))) }
-    ensures none { IfOk result (λ found. IfNone found (NoValue (HasVersion text.now))) }
+// Appends the text of the version whose key a text is, if npm reads it.
+fn push_version_of(alloc: Global, text: &str, output: &mut String) -> Result<bool, AllocError>
+    ensures some { IfOk result (λ has. has ≡ true → (shown : List ℕ) × HasVersion text.now shown
+        × (string_bytes output.new ≡ string_bytes output.old ++ shown)) }
+    ensures none { IfOk result (λ has. has ≡ false → NoValue (HasVersion text.now)) }
 {
-    let Some(version) = read_key(alloc, text)? else {
-        return Ok(None);
-    };
-    let printed = version.to_string(alloc)?;
-    if !is_read(&printed, &version) {
-        return Ok(None);
+    match read_key(alloc, text)? {
+        Some(version) => push_read(alloc, &version, output),
+        None => Ok(false),
     }
-    Ok(Some(printed))
+}
+
+// Appends the text of a version, if npm reads it.
+fn push_read(alloc: Global, version: &Version, output: &mut String) -> Result<bool, AllocError>
+    requires { version.now.build ≡ [] }
+    ensures some { IfOk result (λ has. has ≡ true
+        → IsVersionText MAX_SAFE_INTEGER (version_text version.now) version.now
+        × (string_bytes output.new ≡ string_bytes output.old ++ version_text version.now)) }
+    ensures none { IfOk result (λ has. has ≡ false
+        → ¬ (IsVersionText MAX_SAFE_INTEGER (version_text version.now) version.now)) }
+{
+    let printed = version.to_string(alloc)?;
+    if !is_read(&printed, version) {
+        return Ok(false);
+    }
+    output.push_str(&printed)?;
+    Ok(true)
 }
 
 // The version whose key a text is in hexadecimal.

@@ -1,7 +1,7 @@
 // The subcommands on spans of keys: lines of them, and a condition of SQL.
 
-ghost use Rattle.std.specs.Prelude.{◌≡◌, ◌++◌, ◌∷◌, [], IfOk, None, OnOk, Some, codes, map};
-ghost use Rattle.std.specs.Prelude.{false, if◌then◌else◌, string_bytes, true};
+ghost use Rattle.std.specs.Prelude.{◌≡◌, ◌++◌, ◌∷◌, [], ℕ, IfOk, List, None, OnOk, Some};
+ghost use Rattle.std.specs.Prelude.{codes, false, map, if◌then◌else◌, string_bytes, true};
 ghost use Rattle.std.specs.List.{flat_map};
 ghost use Rattle.hex.specs.Hex.{encode_lower};
 ghost use Rattle.semver_core.specs.Failures.{NoValue, RefusedOnlyIf};
@@ -15,10 +15,11 @@ ghost use Rattle.npm_semver.specs.Subcommands as Says;
 ghost use Rattle.npm_semver.specs.Internal.Said.{said};
 ghost use Rattle.npm_semver.specs.declared.subcommands.replies.Status.TheVariants.{Yes, No};
 
+use crate::subcommands::keys::write_hex;
 use crate::subcommands::ranges::read_range;
 use crate::subcommands::replies::{Reply, Trouble, answer};
 use key_spans::{KeySpan, key_spans};
-use nodejs_semver::Failure;
+use nodejs_semver::{Failure, RangeRef};
 use std::alloc::{AllocError, Global};
 
 /// Whose SQL a condition is.
@@ -55,26 +56,36 @@ fn spans_of<'a>(alloc: Global, text: &'a str) -> Result<Reply<'a>, Failure<Troub
         (NoValue (Answers (codes "spans" ∷ text.now ∷ []))) }
 {
     match read_spans(alloc, text) {
-        Ok(spans) => Ok(listed(alloc, &spans)?),
+        Ok(spans) => listed(alloc, &spans),
         Err(failure) => Err(failure),
     }
 }
 
 // The spans of the range that a text is.
-#[tactic(auto, using(crate::proofs::Spans::are_spans))]
 fn read_spans<'a>(alloc: Global, text: &'a str) -> Result<Vec<KeySpan>, Failure<Trouble<'a>>>
     ensures ok { IfOk result (λ spans. AreSpansOf text.now spans.items) }
     ensures refused { RefusedOnlyIf result (NoValue (IsRange text.now)) }
 {
     match read_range(alloc, text) {
-        Ok(range) => Ok(key_spans(alloc, &range, false)?),
+        Ok(range) => spans_in(alloc, &range),
         Err(failure) => Err(failure),
     }
 }
 
+// The spans of a range, of any text.
+#[tactic(auto, using(crate::proofs::Spans::are_spans))]
+fn spans_in<'a>(alloc: Global, range: &RangeRef<'_>) -> Result<Vec<KeySpan>, Failure<Trouble<'a>>>
+    ensures ok { IfOk result (λ spans. (text : List ℕ) → IsRange text range.now
+        → AreSpansOf text spans.items) }
+    ensures refused { RefusedOnlyIf result ⊥ }
+{
+    Ok(key_spans(alloc, range, false)?)
+}
+
 // A line for each span; no if there is none.
-fn listed<'a>(alloc: Global, spans: &[KeySpan]) -> Result<Reply<'a>, AllocError>
-    ensures { IfOk result (λ r. said r ≡ say (flat_map (λ s. line (span_text s)) spans.now) None
+fn listed<'a>(alloc: Global, spans: &[KeySpan]) -> Result<Reply<'a>, Failure<Trouble<'a>>>
+    ensures refused { RefusedOnlyIf result ⊥ }
+    ensures ok { IfOk result (λ r. said r ≡ say (flat_map (λ s. line (span_text s)) spans.now) None
         (if is_empty spans.now then No else Yes)) }
 {
     let mut output = String::new(alloc);
@@ -115,15 +126,6 @@ fn counted(releases_only: bool) -> &'static str
     }
 }
 
-// Bytes in hexadecimal.
-fn write_hex(alloc: Global, bytes: &[u8], output: &mut String) -> Result<(), AllocError>
-    ensures { OnOk result (string_bytes output.new
-        ≡ string_bytes output.old ++ encode_lower bytes.now) }
-{
-    let digits = hex::encode(alloc, bytes)?;
-    output.push_str(&digits)
-}
-
 const SQL: &str = "sql RANGE COLUMN [--dialect sqlite|postgres|duckdb|mysql]";
 
 /// `sql R COLUMN [--dialect D]` prints a condition for a WHERE: the key in the column is that of a
@@ -157,7 +159,7 @@ fn sql_of<'a>(
         return Err(Failure::Refused(Trouble::NoColumn(column)));
     }
     match read_spans(alloc, text) {
-        Ok(spans) => Ok(printed(alloc, dialect, column, &spans)?),
+        Ok(spans) => printed(alloc, dialect, column, &spans),
         Err(failure) => Err(failure),
     }
 }
@@ -231,8 +233,9 @@ fn printed<'a>(
     dialect: Dialect,
     column: &str,
     spans: &[KeySpan],
-) -> Result<Reply<'a>, AllocError>
-    ensures { IfOk result (λ r.
+) -> Result<Reply<'a>, Failure<Trouble<'a>>>
+    ensures refused { RefusedOnlyIf result ⊥ }
+    ensures ok { IfOk result (λ r.
         said r ≡ Says.reply true (Some (condition dialect column.now spans.now))) }
 {
     let mut output = String::new(alloc);
@@ -369,11 +372,32 @@ impl Dialect {
             ≡ string_bytes output.old ++ is_released self column.now) }
     {
         match self {
-            Dialect::Postgres => write!(output, "substr({column}, length({column})) = '\\x03'"),
-            Dialect::Duckdb => write!(output, "hex({column}) LIKE '%03'"),
-            Dialect::Sqlite | Dialect::Mysql => write!(output, "substr({column}, -1) = x'03'"),
+            Dialect::Postgres => {
+                output.push_str("substr(")?;
+                write_between(column, ", length(", column, output)?;
+                output.push_str(")) = '\\x03'")
+            }
+            Dialect::Duckdb => write_between("hex(", column, ") LIKE '%03'", output),
+            Dialect::Sqlite | Dialect::Mysql => {
+                write_between("substr(", column, ", -1) = x'03'", output)
+            }
         }
     }
+}
+
+// A text between two others.
+fn write_between(
+    before: &str,
+    text: &str,
+    behind: &str,
+    output: &mut String,
+) -> Result<(), AllocError>
+    ensures { OnOk result (string_bytes output.new
+        ≡ string_bytes output.old ++ (before.now ++ (text.now ++ behind.now))) }
+{
+    output.push_str(before)?;
+    output.push_str(text)?;
+    output.push_str(behind)
 }
 
 // Bytes as a literal in which each is escaped.

@@ -1,6 +1,6 @@
-use Rattle.std.proofs.Common.{arith}
-use Rattle.std.proofs.lemmas.Grind.{common_steps}
+use Rattle.std.proofs.Common.{inl, inr}
 use Rattle.npm_semver.proofs.subcommands.spans.Dialect.write_released.Goals as goal
 
-pub returns-in-Postgres : goal.returns-in-Postgres
-returns-in-Postgres c = grind (arith, common_steps)
+pub returns-in-Sqlite : goal.returns-in-Sqlite
+returns-in-Sqlite c =
+    elim c.in-Sqlite.is [ inl e ↦ rw e c.write_between-in-Sqlite.ensures | inr e ↦ rw e c.write_between-in-Sqlite.ensures ]
