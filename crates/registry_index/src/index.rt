@@ -1,12 +1,11 @@
 // The table of the index, and how lines are put into it.
 
-ghost use Rattle.std.specs.Prelude.{◌∷◌, [], ℕ, IfErr, IfOk, IsTrue, List, Ok};
+ghost use Rattle.std.specs.Prelude.{◌≡◌, IfErr, IfOk, IsTrue, Ok};
 ghost use Rattle.registry_index.specs.Bound.{IsRowOf};
-ghost use Rattle.registry_index.specs.Lines.{IsRefused};
+ghost use Rattle.registry_index.specs.Lines.{IsKeyOf, IsRefused, package_in, rest_in, version_in};
 ghost use Rattle.sqlite.specs.Held.{state};
 ghost use Rattle.sqlite.specs.State.{ExecutesInside, HasCleanDisk};
 ghost use Rattle.sqlite_value.specs.Order.{Row};
-ghost use Rattle.sqlite_value.specs.declared.value.Value.TheVariants.{Blob, Text};
 
 use crate::line::{Line, cut, key_of, refusal};
 use crate::trouble::Trouble;
@@ -37,32 +36,27 @@ pub fn add<S: Alter>(
         (state S.Store tx.old.conn.now) (state S.Store tx.new.conn.now) (Ok n)) }
     ensures refused { IfErr result (IsRefused text.now) }
 {
+    let (line, key) = read(alloc, number, text)?;
+    Ok(tx.execute(
+        insertion,
+        params![line.package, &key, line.version, line.rest],
+    )?)
+}
+
+// The parts of a line and the key of its version, or why the line is refused.
+fn read(alloc: Global, number: u64, text: &str) -> Result<(Line<'_>, Vec<u8>), Trouble>
+    ensures key { IfOk result (λ it. IsKeyOf (version_in text.now) it.1.items) }
+    ensures package { IfOk result (λ it. it.0.package.now ≡ package_in text.now) }
+    ensures version { IfOk result (λ it. it.0.version.now ≡ version_in text.now) }
+    ensures rest { IfOk result (λ it. it.0.rest.now ≡ rest_in text.now) }
+    ensures refused { IfErr result (IsRefused text.now) }
+{
     let Some(line) = cut(text) else {
         return Err(Trouble::Line(number, anyhow!("no tab behind the package")));
     };
     match key_of(alloc, line.version) {
-        Ok(Some(key)) => insert(tx, insertion, &line, &key),
+        Ok(Some(key)) => Ok((line, key)),
         Ok(None) => Err(Trouble::Line(number, refusal(line.version))),
         Err(error) => Err(Trouble::Index(error.into())),
     }
-}
-
-// Puts the parts of a line and the key of its version into the index.
-fn insert<S: Alter>(
-    tx: &mut Transaction<'_, S>,
-    insertion: &str,
-    line: &Line<'_>,
-    key: &[u8],
-) -> Result<usize, Trouble>
-    ensures row { HasCleanDisk (state S.Store tx.new.conn.now)
-        → IsTrue (state S.Store tx.old.conn.now).in_transaction
-        → IfOk result (λ n. ExecutesInside 0 insertion.now (Text line.now.package.now ∷ Blob key.now
-        ∷ Text line.now.version.now ∷ Text line.now.rest.now ∷ []) (state S.Store tx.old.conn.now)
-        (state S.Store tx.new.conn.now) (Ok n)) }
-    ensures refused { IfErr result (λ trouble. (text : List ℕ) → IsRefused text trouble) }
-{
-    Ok(tx.execute(
-        insertion,
-        params![line.package, key, line.version, line.rest],
-    )?)
 }

@@ -8,7 +8,7 @@ use crate::input::Input;
 use crate::request::Answer;
 use crate::trouble::Trouble;
 use anyhow::anyhow;
-use sqlite::{Alter, Connection, Transaction};
+use sqlite::{Alter, Connection};
 use std::alloc::Global;
 use std::io::{BufReader, Lines};
 
@@ -22,27 +22,17 @@ pub fn load<S: Alter>(
     ensures { IfOk result (λ answer. answer ≡ Loaded) }
 {
     let mut tx = conn.transaction();
-    put_all(alloc, &mut tx, lines)?;
-    tx.commit()?;
-    Ok(Answer::Loaded)
-}
-
-// Puts lines into the table, which is made if it is not there yet.
-fn put_all<S: Alter>(
-    alloc: Global,
-    tx: &mut Transaction<'_, S>,
-    lines: &mut Lines<BufReader<Input>>,
-) -> Result<(), Trouble> {
     tx.execute_batch(TABLE)?;
     let mut number: u64 = 0;
     for line in lines {
         number = number.saturating_add(1);
         match line {
             Ok(line) => {
-                add(alloc, tx, INSERT, number, &line)?;
+                add(alloc, &mut tx, INSERT, number, &line)?;
             }
             Err(error) => return Err(Trouble::Line(number, anyhow!(error))),
         }
     }
-    Ok(())
+    tx.commit()?;
+    Ok(Answer::Loaded)
 }

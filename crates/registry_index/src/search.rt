@@ -1,12 +1,10 @@
 // Answers from the index.
 
-ghost use Rattle.std.specs.Prelude.{◌≡◌, ◌∷◌, ◌++◌, [], IfOk, List, OnOk, map, take};
-ghost use Rattle.registry_index.specs.Bound.{asked};
+ghost use Rattle.std.specs.Prelude.{◌≡◌, ◌∷◌, ◌++◌, [], IfOk, OnOk, map, take};
 ghost use Rattle.registry_index.specs.Searches.{AreFound, IsCount, IsFirst, first_told};
 ghost use Rattle.registry_index.specs.Searches.{row_of};
 ghost use Rattle.sqlite.specs.Held.{state};
-ghost use Rattle.sqlite.specs.State.{HasCleanDisk, Shown};
-ghost use Rattle.sqlite_value.specs.Order.{Row as Values};
+ghost use Rattle.sqlite.specs.State.{HasCleanDisk};
 ghost use Rattle.sqlite_value.specs.declared.value.Value.TheVariants.{Blob, Text};
 
 use key_spans::KeySpan;
@@ -60,31 +58,14 @@ pub fn search<S: Alter>(
 {
     let mut found = Vec::new(alloc);
     for span in spans {
-        find(conn, query, name, span, &mut found)?;
+        let rows = conn.query_all(
+            query,
+            params![name, &span.start, &span.stop, span.releases_only],
+        )?;
+        push_all(&rows, &mut found)?;
     }
     found.sort()?;
     Ok(found)
-}
-
-// Adds what a query finds of a package in a span.
-fn find<S: Alter>(
-    conn: &mut Connection<S>,
-    query: &str,
-    name: &str,
-    span: &KeySpan,
-    found: &mut Vec<Found>,
-) -> Result<(), Error>
-    ensures clean { HasCleanDisk (state S.Store conn.new) → HasCleanDisk (state S.Store conn.old) }
-    ensures told { HasCleanDisk (state S.Store conn.new) → OnOk result
-        ((rows : List Values) × Shown query.now (asked name.now span.now)
-        (state S.Store conn.old) (state S.Store conn.new) rows
-        × (map row_of found.new.items ≡ map row_of found.old.items ++ map (take 3) rows)) }
-{
-    let rows = conn.query_all(
-        query,
-        params![name, &span.start, &span.stop, span.releases_only],
-    )?;
-    push_all(&rows, found)
 }
 
 fn push_all(rows: &[Row], found: &mut Vec<Found>) -> Result<(), Error>
