@@ -12,7 +12,7 @@ ghost use Rattle.semver_core.specs.Text.Identifiers.{is_listed};
 ghost use Rattle.semver_core.specs.Values.Versions.{VersionValue};
 ghost use Rattle.std.specs.Prelude.{◌≡◌, ◌⊎◌, IfErr, IfOk, IfSome, IsTrue, IsUtf8, false, true};
 
-use crate::common::{common, release};
+use crate::common::{release, release_front, with_lists};
 use crate::kept::{Version, lent};
 use crate::{
     BAD_ARGUMENT, BAD_RANGE, BAD_VERSION, NO_MEMORY, NOT_UTF8, READING_NPM, READING_NPM_LOOSE,
@@ -152,11 +152,17 @@ pub fn common_version(reading: u32, bytes: &[u8]) -> Option<Version<'_>>
     ensures { IfSome result (λ p. IsVersionOf reading bytes.now (kept_value p)
         × (is_listed p.pre_release.now ≡ true) × (is_listed p.build.now ≡ true)) }
 {
-    match reading {
-        READING_PORT => common(bytes),
-        _ if reading <= READING_NPM_LOOSE => release(bytes),
-        _ => None,
+    if reading > READING_NPM_LOOSE {
+        return None;
     }
+    let (release, rest) = release_front(bytes)?;
+    if rest.is_empty() {
+        return Some(release);
+    }
+    if reading == READING_PORT {
+        return with_lists(&release, rest);
+    }
+    None
 }
 
 /// Whether a text is one of a release that prints as the text.
