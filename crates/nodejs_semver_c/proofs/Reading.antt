@@ -84,13 +84,13 @@ lists_utf8 text pre build (p, b, split, pre_is, build_is, pre_listed, build_list
 -- ---- the version
 
 -- what is behind a dot
-first_found : (limit : ℕ) (text : List ℕ) (n : ℕ) (rest : List ℕ) → number_with false limit text ≡ Some (n, rest)
+pub first_found : (limit : ℕ) (text : List ℕ) (n : ℕ) (rest : List ℕ) → number_with false limit text ≡ Some (n, rest)
     → NumberAt limit text n rest
 unfolding number_with
 first_found limit text n rest h =
     let k : number_front limit text ≡ Some (n, rest) = grind arith in number-found limit text n rest k
 
-dotted_found : (limit : ℕ) (text : List ℕ) (n : ℕ) (rest : List ℕ) → dotted_with false limit text ≡ Some (n, rest)
+pub dotted_found : (limit : ℕ) (text : List ℕ) (n : ℕ) (rest : List ℕ) → dotted_with false limit text ≡ Some (n, rest)
     → (x : List ℕ) × (text ≡ 46 ∷ x) × NumberAt limit x n rest
 unfolding dotted_with
 dotted_found limit text n rest h =

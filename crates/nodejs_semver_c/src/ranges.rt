@@ -13,6 +13,7 @@ ghost use Rattle.semver_core.specs.declared.cuts.bound.Bound.TheVariants.{After}
 ghost use Rattle.std.specs.List.{Any};
 ghost use Rattle.std.specs.Prelude.{◌≡◌, ◌⊎◌, IfSome, Option, false, true};
 
+use crate::asked::is_accepted;
 use crate::print::{print, print_found};
 use crate::{NO_MEMORY, OK, read};
 use std::alloc::Global;
@@ -43,6 +44,30 @@ pub extern "C" fn nodejs_semver_range_print(
 /// Returns `OK`, `BAD_ARGUMENT`, `NOT_UTF8`, `BAD_RANGE`, `BAD_VERSION`, `NO_MEMORY` or `TOO_LONG`.
 #[unsafe(no_mangle)]
 pub extern "C" fn nodejs_semver_range_satisfies(
+    alloc: Global,
+    reading: u32,
+    range: &[u8],
+    version: &[u8],
+    include_prerelease: bool,
+    answer: &mut bool,
+) -> u32
+    ensures { let kept = answer.new ≡ answer.old in
+        OnRange reading include_prerelease range.now result kept (λ r.
+        OnVersion reading version.now result kept (λ v.
+        (result ≡ OK) × (answer.new ≡ accepts r v include_prerelease))) }
+{
+    if let Some(interval) = read::common_range(reading, range)
+        && let Some(version) = read::common_version(reading, version)
+    {
+        *answer = is_accepted(&[interval], &version, include_prerelease);
+        return OK;
+    }
+    any_satisfies(alloc, reading, range, version, include_prerelease, answer)
+}
+
+// The same of all texts, as a call.
+#[inline(never)]
+fn any_satisfies(
     alloc: Global,
     reading: u32,
     range: &[u8],

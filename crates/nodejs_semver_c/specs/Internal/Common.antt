@@ -1,6 +1,9 @@
 -- For proofs and private contracts. Common texts of versions.
-use Rattle.std.specs.Prelude.{◌≡◌, ◌≤◌, ◌++◌, Bool, IsUtf8, List, [], Ok, Some, ℕ, false, length, true}
+use Rattle.std.specs.Prelude.{◌≡◌, ◌≤◌, ◌++◌, ◌∷◌, Bool, IsUtf8, List, [], Ok, Some, ℕ, false, length, true}
 use Rattle.semver_core.specs.Internal.Fronts.{dotted_with, number_with}
+use Rattle.nodejs_semver.specs.Text.Meaning.{Means}
+use Rattle.npm_reading.specs.Ranges.{IsRangeIn}
+use Rattle.semver_core.specs.Cuts.{Span}
 use Rattle.semver_core.specs.Increments.Table.{answer_of_inc}
 use Rattle.semver_core.specs.Printing.Text.{version_text}
 use Rattle.semver_core.specs.Text.Identifiers.{is_listed, listed}
@@ -8,6 +11,7 @@ use Rattle.semver_core.specs.Text.Parsing.{Parses}
 use Rattle.semver_core.specs.Text.VersionText.{IsBuild, IsPreRelease}
 use Rattle.semver_core.specs.declared.increment.IdentifierBase.{IdentifierBase}
 use Rattle.semver_core.specs.declared.TheConstants.{MAX_LENGTH, MAX_SAFE_INTEGER}
+use Rattle.semver_core.specs.Values.Versions.{VersionValue}
 use Rattle.npm_words.specs.VersionText.{IsVersionTextIn}
 use Rattle.nodejs_semver_c.specs.Kept.{kept_value}
 use Rattle.nodejs_semver_c.specs.declared.kept.Version.{Version}
@@ -40,3 +44,9 @@ abbrev pub IsNextRelease : Version → List ℕ → Version → Type 0
 IsNextRelease p word next = IsUtf8 word × (next.pre_release.now ≡ []) × (next.build.now ≡ p.build.now)
     × ((id : List ℕ) (base : IdentifierBase)
     → answer_of_inc (kept_value p) word (Some id) (Some base) ≡ Ok (kept_value next))
+
+-- the text is UTF-8, and this interval alone in the port's reading and in npm's strict one, with
+-- pre-releases included and without
+abbrev pub IsWordText : List ℕ → Span VersionValue → Type 0
+IsWordText text s = IsUtf8 text × Means MAX_SAFE_INTEGER text (s ∷ [])
+    × ((include : Bool) → IsRangeIn false MAX_SAFE_INTEGER include text (s ∷ []))
