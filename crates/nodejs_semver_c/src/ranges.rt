@@ -15,7 +15,9 @@ ghost use Rattle.std.specs.Prelude.{◌≡◌, ◌⊎◌, IfSome, Option, false,
 
 use crate::asked::is_accepted;
 use crate::print::{print, print_found};
-use crate::{NO_MEMORY, OK, read};
+use crate::read::reading_of;
+use crate::{BAD_ARGUMENT, NO_MEMORY, OK, read};
+use nodejs_semver::RangeRef;
 use std::alloc::Global;
 
 /// Prints the range of a text in its normal form: `^1.2` as `>=1.2.0 <2.0.0-0`.
@@ -80,7 +82,29 @@ fn any_satisfies(
         OnVersion reading version.now result kept (λ v.
         (result ≡ OK) × (answer.new ≡ accepts r v include_prerelease))) }
 {
-    let range = ok_or_return!(read::range(alloc, reading, include_prerelease, range));
+    let Some(grammar) = reading_of(reading) else {
+        return BAD_ARGUMENT;
+    };
+    let text = ok_or_return!(read::text(range));
+    // A range is long: it is asked where it is read.
+    match &grammar.spelled_range(alloc, include_prerelease, text) {
+        Ok(range) => tell_satisfies(range, reading, version, include_prerelease, answer),
+        Err(failure) => grammar.status_of(include_prerelease, text, failure),
+    }
+}
+
+// Whether a range accepts the version of a text.
+fn tell_satisfies(
+    range: &RangeRef<'_>,
+    reading: u32,
+    version: &[u8],
+    include_prerelease: bool,
+    answer: &mut bool,
+) -> u32
+    ensures { let kept = answer.new ≡ answer.old in
+        OnVersion reading version.now result kept (λ v.
+        (result ≡ OK) × (answer.new ≡ accepts range.now v include_prerelease)) }
+{
     let version = ok_or_return!(read::version(reading, version));
     *answer = range.satisfies_with_prerelease(&version, include_prerelease);
     OK
