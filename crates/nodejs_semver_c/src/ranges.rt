@@ -58,7 +58,7 @@ pub extern "C" fn nodejs_semver_range_satisfies(
         OnVersion reading version.now result kept (λ v.
         (result ≡ OK) × (answer.new ≡ accepts r v include_prerelease))) }
 {
-    if let Some(interval) = read::common_range(reading, range)
+    if let Some(interval) = read::common_range(reading, include_prerelease, range)
         && let Some(version) = read::common_version(reading, version)
     {
         *answer = is_accepted(&[interval], &version, include_prerelease);

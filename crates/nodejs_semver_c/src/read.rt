@@ -11,7 +11,7 @@ ghost use Rattle.semver_core.specs.Failures.{NoValue};
 ghost use Rattle.semver_core.specs.Printing.Text.{version_text};
 ghost use Rattle.semver_core.specs.Text.Identifiers.{is_listed};
 ghost use Rattle.semver_core.specs.Values.Versions.{VersionValue};
-ghost use Rattle.std.specs.Prelude.{◌∷◌, ◌≡◌, ◌⊎◌, [], Bool, IfErr, IfOk, IfSome, IsTrue, IsUtf8, false};
+ghost use Rattle.std.specs.Prelude.{◌∷◌, ◌≡◌, ◌⊎◌, [], IfErr, IfOk, IfSome, IsTrue, IsUtf8, false};
 ghost use Rattle.std.specs.Prelude.{true};
 
 use crate::common::{release, release_front, with_lists};
@@ -212,14 +212,14 @@ fn any_version(reading: u32, bytes: &[u8]) -> Result<VersionRef<'_>, u32>
 
 /// The interval of a range text that most ranges have, or `None`.
 #[inline(always)]
-pub fn common_range(reading: u32, bytes: &[u8]) -> Option<Interval<'_>>
-    ensures { (include : Bool) → IfSome result (λ i.
-        IsRangeOf reading include bytes.now (kept_span i ∷ [])) }
+pub fn common_range(reading: u32, include_prerelease: bool, bytes: &[u8]) -> Option<Interval<'_>>
+    ensures { IfSome result (λ i.
+        IsRangeOf reading include_prerelease bytes.now (kept_span i ∷ [])) }
 {
     if reading > READING_NPM {
         return None;
     }
-    range_word(bytes)
+    range_word(include_prerelease, bytes)
 }
 
 /// The range of a text, or the status that rejects it. npm may include pre-releases in it.

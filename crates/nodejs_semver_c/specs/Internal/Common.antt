@@ -45,8 +45,7 @@ IsNextRelease p word next = IsUtf8 word × (next.pre_release.now ≡ []) × (nex
     × ((id : List ℕ) (base : IdentifierBase)
     → answer_of_inc (kept_value p) word (Some id) (Some base) ≡ Ok (kept_value next))
 
--- the text is UTF-8, and this interval alone in the port's reading and in npm's strict one, with
--- pre-releases included and without
-abbrev pub IsWordText : List ℕ → Span VersionValue → Type 0
-IsWordText text s = IsUtf8 text × Means MAX_SAFE_INTEGER text (s ∷ [])
-    × ((include : Bool) → IsRangeIn false MAX_SAFE_INTEGER include text (s ∷ []))
+-- the text is UTF-8, and this interval alone in the port's reading and in npm's strict one
+abbrev pub IsWordText : Bool → List ℕ → Span VersionValue → Type 0
+IsWordText include text s = IsUtf8 text × Means MAX_SAFE_INTEGER text (s ∷ [])
+    × IsRangeIn false MAX_SAFE_INTEGER include text (s ∷ [])
