@@ -1,11 +1,11 @@
 -- Texts of a caret or a tilde and a release: both readings have the same interval of them.
-use Rattle.std.proofs.Common.{◌∙◌, ◌⊎◌, ◌≡◌, ◌-◌, ◌<◌, ◌≤◌, ◌+◌, ◌++◌, ◌∷◌, Bool, List, [], Some, arith, false, inl, inr, length, refl, subst}
-use Rattle.std.proofs.Common.{suc, sym, take, take_all, true, zero, ℕ}
+use Rattle.std.proofs.Common.{◌⊎◌, ◌≡◌, ◌-◌, ◌<◌, ◌≤◌, ◌+◌, ◌++◌, ◌∷◌, Bool, List, [], Some, arith, false, inl, inr, length, refl, subst}
+use Rattle.std.proofs.Common.{suc, sym, take, true, zero, ℕ}
 use Rattle.std.specs.Prelude.{IsUtf8, nat_le}
 use Rattle.std.specs.Option.{option_to_list}
 use Rattle.nodejs_semver.proofs.Common.{nat_tests}
 use Rattle.nodejs_semver.proofs.Everyday.Whole.{common_is_meant}
-use Rattle.nodejs_semver.specs.Text.Common.{IsCommonWord, caret_word, compare_word, comparison, one_part, one_word, tilde_word}
+use Rattle.nodejs_semver.specs.Text.Common.{IsCommonWord, caret_word, one_part, one_word, tilde_word}
 use Rattle.nodejs_semver.specs.Text.Meaning.{Means}
 use Rattle.nodejs_semver.specs.Text.PartialText.{AreComponents, number, three}
 use Rattle.nodejs_semver.specs.Text.PartialText as Port
@@ -31,16 +31,12 @@ use Rattle.semver_core.specs.Text.VersionText as Text
 use Rattle.semver_core.specs.Values.Order.{precedence}
 use Rattle.semver_core.specs.Values.Versions.{IsVersion, VersionValue, lowest, release_value}
 use Rattle.semver_core.specs.declared.TheConstants.{MAX_LENGTH, MAX_SAFE_INTEGER}
-use Rattle.semver_core.specs.declared.cuts.bound.Bound.TheVariants.{Before, Unbounded}
-use Rattle.semver_core.specs.declared.cuts.bound.Bound.{Bound}
+use Rattle.semver_core.specs.declared.cuts.bound.Bound.TheVariants.{Before}
 use Rattle.nodejs_semver_c.proofs.Reading.{dotted_found, first_found, marked_utf8}
 use Rattle.nodejs_semver_c.proofs.Releases.{release_read}
 use Rattle.nodejs_semver_c.specs.Internal.Common.{IsReleaseAt, IsWordText}
 use Rattle.nodejs_semver_c.specs.Kept.{kept_value}
 use Rattle.nodejs_semver_c.specs.declared.kept.Version.{Version}
-
-abbrev up_to : VersionValue → Bound VersionValue → Span VersionValue
-up_to v upper = record { lower = Before v; upper = upper }
 
 -- from a version on, below another one
 abbrev span_to : VersionValue → VersionValue → Span VersionValue
@@ -58,10 +54,10 @@ below_end v n = span_to v (lowest n.0 n.1 n.2)
 -- ---- the tables
 
 -- `>=` of a version other than 0.0.0, and `<` of the least pre-release of other numbers
-from_in : (include : Bool) (a b c : ℕ) → 0 < a + b + c → within (a, b, c) ≡ true
+both_in : (include : Bool) (a b c : ℕ) (n : ℕ × ℕ × ℕ) → 0 < a + b + c → within (a, b, c) ≡ true → within n ≡ true
     → nat_le (length (version_text (release_value a b c))) MAX_LENGTH ≡ true
-    → AreIn include (unbuilt at_least (release_value a b c) ∷ []) (up_to (release_value a b c) Unbounded)
-from_in include a b c more w short =
+    → AreIn include (unbuilt at_least (release_value a b c) ∷ (under n ∷ [])) (below_end (release_value a b c) n)
+both_in include a b c n more w e short =
     let v = release_value a b c in
     let low = unbuilt at_least v in
     let valid : is_valid MAX_SAFE_INTEGER low ≡ true = grind (arith, nat_tests, w, short) in
@@ -73,16 +69,7 @@ from_in include a b c more w short =
       pre_release = grind arith;
       build = grind arith;
     } in
-    (rw valid refl, from_some include false v w refl (inr (inr (version, some))))
-
-both_in : (include : Bool) (a b c : ℕ) (n : ℕ × ℕ × ℕ) → 0 < a + b + c → within (a, b, c) ≡ true → within n ≡ true
-    → nat_le (length (version_text (release_value a b c))) MAX_LENGTH ≡ true
-    → AreIn include (unbuilt at_least (release_value a b c) ∷ (under n ∷ [])) (below_end (release_value a b c) n)
-both_in include a b c n more w e short =
-    let v = release_value a b c in
-    let low = unbuilt at_least v in
-    let valid : is_valid MAX_SAFE_INTEGER low ≡ true = grind (arith, nat_tests, w, short) in
-    (until_valid low n valid e, until_common include low (Before v) n e (from_in include a b c more w short).1)
+    (until_valid low n valid e, until_common include low (Before v) n e (from_some include false v w refl (inr (inr (version, some)))))
 
 -- with pre-releases included, a caret has another lower bound where the first number is 0
 abbrev IsPlain : Bool → ℕ → Type 0
@@ -140,16 +127,15 @@ module _ (rest r s : List ℕ) (a b c : ℕ) (first_is : number_with false MAX_S
       (u, rw printed (grind (arith, nat_tests)))
 
   -- npm's strict reading
-  in_npm : (include : Bool) (sign : Sign) (signed : List ℕ) (upper : Bound VersionValue) → IsUtf8 signed → IsSignAt signed sign rest
-      → AreIn include (Table.table include sign (whole v) cut) (up_to v upper) → is_interval precedence (up_to v upper) ≡ true
-      → IsRangeIn false MAX_SAFE_INTEGER include signed (up_to v upper ∷ [])
-  in_npm include sign signed upper u at are ordered =
-      let span = up_to v upper in
-      let word : IsWordAt include signed span [] = word-found rest (whole v) [] read include signed sign span at are in
-      let one : option_to_list (interval precedence span) ≡ span ∷ [] = rw ordered refl in
-      let parts : AreParts include signed (span ∷ []) = subst (λ (ss : List (Span VersionValue)). AreParts include signed ss) one
-      (Npm.one signed span (part-of_one include signed [] span word)) in
-      common-range include signed (span ∷ []) (span ∷ []) u parts refl
+  in_npm : (include : Bool) (sign : Sign) (signed : List ℕ) (w : VersionValue) → IsUtf8 signed → IsSignAt signed sign rest
+      → AreIn include (Table.table include sign (whole v) cut) (span_to v w) → is_interval precedence (span_to v w) ≡ true
+      → IsRangeIn false MAX_SAFE_INTEGER include signed (span_to v w ∷ [])
+  in_npm include sign signed w u at are ordered =
+      let word : IsWordAt include signed (span_to v w) [] = word-found rest (whole v) [] read include signed sign (span_to v w) at are in
+      let one : option_to_list (interval precedence (span_to v w)) ≡ span_to v w ∷ [] = rw ordered refl in
+      let parts : AreParts include signed (span_to v w ∷ []) = subst (λ (ss : List (Span VersionValue)). AreParts include signed ss) one
+      (Npm.one signed (span_to v w) (part-of_one include signed [] (span_to v w) word)) in
+      common-range include signed (span_to v w ∷ []) (span_to v w ∷ []) u parts refl
 
   -- the port's reading
   abbrev partial : Port.Partial
@@ -178,7 +164,7 @@ module _ (rest r s : List ℕ) (a b c : ℕ) (first_is : number_with false MAX_S
       (both_in include a b c end more small fits whole_text.1) in (
         u,
         in_port (94 ∷ rest) (Word.caret partial) (below_end v end) (caret_word rest partial components) (port_row a b c),
-        in_npm include Table.caret (94 ∷ rest) (Before (lowest end.0 end.1 end.2)) u (inl refl) are (in_order a b c),
+        in_npm include Table.caret (94 ∷ rest) (lowest end.0 end.1 end.2) u (inl refl) are (in_order a b c),
       )
 
   tilde_found : (include : Bool) → 0 < a + b + c → b < MAX_SAFE_INTEGER → IsWordText include (126 ∷ rest) (below_end v (a, b + 1, 0))
@@ -192,24 +178,7 @@ module _ (rest r s : List ℕ) (a b c : ℕ) (first_is : number_with false MAX_S
       (both_in include a b c (a, b + 1, 0) more small above whole_text.1) in (
         u,
         in_port (126 ∷ rest) (Word.tilde false partial) (below_end v (a, b + 1, 0)) (tilde_word rest partial components) refl,
-        in_npm include Table.tilde (126 ∷ rest) (Before (lowest a (b + 1) 0)) u (inl refl) are ordered,
-      )
-
-  at_least_found : (include : Bool) → 0 < a + b + c → IsWordText include (62 ∷ (61 ∷ rest)) (up_to v Unbounded)
-  unfolding table listed
-  at_least_found include more =
-      let u = marked_utf8 62 (61 ∷ rest) (omega arith) (marked_utf8 61 rest (omega arith) whole_text.0) in
-      let ordered : is_interval precedence (up_to v Unbounded) ≡ true = refl in
-      let (utf8, port, npm, printed, pre, build) = release_read rest r s [] a b c first_is second third refl short in
-      let all : cut ≡ rest = take_all (length rest - length {A = ℕ} []) rest (omega arith) in
-      let low : AreIn include (record { sign = at_least; version = v; text = version_text v } ∷ []) (up_to v Unbounded) =
-      from_in include a b c more small whole_text.1 in
-      let are : AreIn include (Table.table include (Table.compared at_least) (whole v) cut) (up_to v Unbounded) =
-      subst (λ (x : List ℕ). AreIn include (record { sign = at_least; version = v; text = x } ∷ []) (up_to v Unbounded)) (printed ∙ sym all) low in (
-        u,
-        in_port (62 ∷ (61 ∷ rest)) (Word.compare at_least partial) (up_to v Unbounded)
-            (compare_word _ _ (comparison at_least (62 ∷ (61 ∷ [])) rest partial Word.at_least_sign components)) refl,
-        in_npm include (Table.compared at_least) (62 ∷ (61 ∷ rest)) Unbounded u (inl refl) are ordered,
+        in_npm include Table.tilde (126 ∷ rest) (lowest a (b + 1) 0) u (inl refl) are ordered,
       )
 
 -- ---- as the code has them
@@ -262,9 +231,3 @@ pub tilde_text : (include : Bool) (text : List ℕ) (p : Version) → IsCommonRe
 unfolding listed
 tilde_text include text p ((short, no_pre, unbuilt_is, r, s, x, y, z), more, (h, k, l)) =
     rw (no_pre, unbuilt_is) (tilde_found text r s p.major p.minor p.patch x y z short include more k)
-
-pub at_least_text : (include : Bool) (text : List ℕ) (p : Version) → IsCommonRelease text p
-    → IsWordText include (62 ∷ (61 ∷ text)) (up_to (kept_value p) Unbounded)
-unfolding listed
-at_least_text include text p ((short, no_pre, unbuilt_is, r, s, x, y, z), more, rises) =
-    rw (no_pre, unbuilt_is) (at_least_found text r s p.major p.minor p.patch x y z short include more)

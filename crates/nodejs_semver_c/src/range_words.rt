@@ -1,17 +1,17 @@
-// Common texts of ranges, read from their bytes: a caret, a tilde or `>=`, and a release.
+// Common texts of ranges, read from their bytes: a caret or a tilde, and a release.
 
 ghost use Rattle.nodejs_semver_c.specs.Internal.Common.{IsReleaseAt, IsWordText};
 ghost use Rattle.nodejs_semver_c.specs.Kept.{kept_value};
 ghost use Rattle.nodejs_semver_c.specs.KeptRanges.{kept_span};
 ghost use Rattle.semver_core.specs.Values.Versions.{lowest};
 ghost use Rattle.semver_core.specs.declared.TheConstants.{MAX_SAFE_INTEGER};
-ghost use Rattle.semver_core.specs.declared.cuts.bound.Bound.TheVariants.{Before, Unbounded};
+ghost use Rattle.semver_core.specs.declared.cuts.bound.Bound.TheVariants.{Before};
 ghost use Rattle.std.specs.Prelude.{◌+◌, ◌<◌, ◌∷◌, ◌≡◌, [], IfSome};
 
 use crate::common::release_front;
 use crate::intervals::{Bound, Interval};
 use crate::kept::Version;
-use crate::{BOUND_CLOSED, BOUND_NONE, BOUND_OPEN};
+use crate::{BOUND_CLOSED, BOUND_OPEN};
 use nodejs_semver::MAX_SAFE_INTEGER;
 
 // From a version on, below the pre-releases of the release with other numbers.
@@ -38,33 +38,6 @@ fn until<'a>(version: Version<'a>, major: u64, minor: u64, patch: u64) -> Interv
         upper: Bound {
             kind: BOUND_OPEN,
             version: end,
-        },
-    }
-}
-
-// From a version on.
-#[inline(always)]
-fn from(version: Version<'_>) -> Interval<'_>
-    ensures { kept_span result ≡ record {
-      lower = Before (kept_value version.entry);
-      upper = Unbounded;
-    } }
-{
-    let none = Version {
-        major: 0,
-        minor: 0,
-        patch: 0,
-        pre_release: b"",
-        build: b"",
-    };
-    Interval {
-        lower: Bound {
-            kind: BOUND_CLOSED,
-            version,
-        },
-        upper: Bound {
-            kind: BOUND_NONE,
-            version: none,
         },
     }
 }
@@ -119,17 +92,7 @@ fn tilde(include_prerelease: bool, text: &[u8]) -> Option<Interval<'_>>
     Some(until(release, major, minor + 1, 0))
 }
 
-// The interval of `>=` and a text.
-#[inline(always)]
-fn at_least(include_prerelease: bool, text: &[u8]) -> Option<Interval<'_>>
-    ensures { IfSome result (λ i.
-        IsWordText include_prerelease (62 ∷ (61 ∷ text.now)) (kept_span i)) }
-{
-    let release = common_release(text)?;
-    Some(from(release))
-}
-
-/// The interval of a text that is a caret, a tilde or `>=`, and a release without leading zeros. The
+/// The interval of a text that is a caret or a tilde, and a release without leading zeros. The
 /// port's reading has it and npm's strict one. `None` is returned for others, of which most are
 /// ranges too.
 #[inline(always)]
@@ -139,7 +102,6 @@ pub fn range_word(include_prerelease: bool, text: &[u8]) -> Option<Interval<'_>>
     match text {
         [b'^', rest @ ..] => caret(include_prerelease, rest),
         [b'~', rest @ ..] => tilde(include_prerelease, rest),
-        [b'>', b'=', rest @ ..] => at_least(include_prerelease, rest),
         _ => None,
     }
 }
