@@ -41,7 +41,6 @@ pub fn text(bytes: &[u8]) -> Result<&str, u32>
     if bytes.len() > MOST_BYTES {
         return Err(TOO_LONG);
     }
-    // Most texts are ASCII, which is seen sooner.
     if bytes.is_ascii() {
         return Ok(unsafe { str::from_utf8_unchecked(bytes) });
     }
