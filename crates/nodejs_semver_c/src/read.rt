@@ -41,9 +41,6 @@ pub fn text(bytes: &[u8]) -> Result<&str, u32>
     if bytes.len() > MOST_BYTES {
         return Err(TOO_LONG);
     }
-    if bytes.is_ascii() {
-        return Ok(unsafe { str::from_utf8_unchecked(bytes) });
-    }
     match str::from_utf8(bytes) {
         Ok(text) => Ok(text),
         Err(_) => Err(NOT_UTF8),
