@@ -10,6 +10,7 @@ mod Nexts
 mod Places
 mod Printing
 mod Putting
+mod RangeWords
 mod Ranging
 mod Reading
 mod Releases

@@ -17,7 +17,7 @@ use Rattle.semver_core.proofs.Reading.Qualifiers.{build-read, pre-read}
 use Rattle.semver_core.proofs.Text.Texts.{bind_some}
 use Rattle.semver_core.proofs.Text.Ends.{is_spelled}
 use Rattle.semver_core.proofs.Text.Listed.{listed_utf8}
-use Rattle.semver_core.specs.Internal.Fronts.{after_byte, build_front, dotted_with, number_with, pre_release_front, pre_release_with}
+use Rattle.semver_core.specs.Internal.Fronts.{after_byte, build_front, dotted_with, number_front, number_with, pre_release_front, pre_release_with}
 use Rattle.semver_core.specs.Printing.Text.{id_text, marked_list}
 use Rattle.semver_core.specs.Text.Identifiers.{Id, identifier_of, is_identifier, is_listed, is_u64_text, listed, pieces}
 use Rattle.semver_core.specs.Text.Numbers.{IsNumber}
@@ -28,7 +28,8 @@ use Rattle.semver_core.specs.declared.TheConstants.{MAX_LENGTH, MAX_SAFE_INTEGER
 use Rattle.npm_words.proofs.Grammar.VersionLaw.{digits_printed}
 use Rattle.npm_words.specs.Grammar.{has_leading_zero, is_strict_list}
 use Rattle.npm_words.specs.Internal.Readings.{is_strict_identifier}
-use Rattle.nodejs_semver_c.specs.Internal.Common.{AreLists}
+use Rattle.nodejs_semver_c.specs.Internal.Common.{AreLists, IsReleaseAt}
+use Rattle.nodejs_semver_c.specs.declared.kept.Version.{Version}
 use Rattle.nodejs_semver_c.specs.Kept.{list_text}
 
 -- ---- the lists
@@ -36,10 +37,6 @@ use Rattle.nodejs_semver_c.specs.Kept.{list_text}
 pub no_text : {A : Type 0} (xs : List A) → (length xs == 0) ≡ true → xs ≡ []
 no_text [] h = refl
 no_text (x ∷ xs) h = absurd (grind (arith, nat_tests, h))
-
-pub no_lists : (text : List ℕ) → (length text == 0) ≡ true → AreLists text [] []
-unfolding listed is_listed
-no_lists text h = rw (no_text text h) ([], [], refl, no_pre_release [] refl, no_build [] refl, refl, refl)
 
 pub lists_read : (text pre rest build left : List ℕ) → (pre, rest) ≡ pre_release_with false text → (build, left) ≡ build_front rest
     → (length left == 0) ≡ true → is_listed pre ≡ true → is_listed build ≡ true → AreLists text pre build
@@ -87,20 +84,21 @@ lists_utf8 text pre build (p, b, split, pre_is, build_is, pre_listed, build_list
 -- ---- the version
 
 -- what is behind a dot
-dotted_found : (limit : ℕ) (text : List ℕ) (n : ℕ) (rest : List ℕ) → dotted_with true limit text ≡ Some (n, rest)
-    → (x : List ℕ) × (text ≡ 46 ∷ x) × NumberAt limit x n rest
-unfolding dotted_with number_with
-dotted_found limit text n rest h =
-    let (x, dot, number) = bind_some (after_byte 46 text) (λ t. number_with true limit t) (n, rest) h in
-    (x, byte-is 46 text x dot, number-found limit x n rest number)
-
-first_found : (limit : ℕ) (text : List ℕ) (n : ℕ) (rest : List ℕ) → number_with true limit text ≡ Some (n, rest)
+pub first_found : (limit : ℕ) (text : List ℕ) (n : ℕ) (rest : List ℕ) → number_with false limit text ≡ Some (n, rest)
     → NumberAt limit text n rest
 unfolding number_with
-first_found limit text n rest h = number-found limit text n rest h
+first_found limit text n rest h =
+    let k : number_front limit text ≡ Some (n, rest) = grind arith in number-found limit text n rest k
 
-module _ (text r s t pre build : List ℕ) (major minor patch : ℕ) (first : number_with true MAX_SAFE_INTEGER text ≡ Some (major, r))
-    (second : dotted_with true MAX_SAFE_INTEGER r ≡ Some (minor, s)) (third : dotted_with true MAX_SAFE_INTEGER s ≡ Some (patch, t))
+pub dotted_found : (limit : ℕ) (text : List ℕ) (n : ℕ) (rest : List ℕ) → dotted_with false limit text ≡ Some (n, rest)
+    → (x : List ℕ) × (text ≡ 46 ∷ x) × NumberAt limit x n rest
+unfolding dotted_with
+dotted_found limit text n rest h =
+    let (x, dot, number) = bind_some (after_byte 46 text) (λ t. number_with false limit t) (n, rest) h in
+    (x, byte-is 46 text x dot, first_found limit x n rest number)
+
+module _ (text r s t pre build : List ℕ) (major minor patch : ℕ) (first : number_with false MAX_SAFE_INTEGER text ≡ Some (major, r))
+    (second : dotted_with false MAX_SAFE_INTEGER r ≡ Some (minor, s)) (third : dotted_with false MAX_SAFE_INTEGER s ≡ Some (patch, t))
     (lists : AreLists t pre build) where
   abbrev value : VersionValue
   value = record { major = major; minor = minor; patch = patch; pre_release = listed pre; build = listed build }
@@ -137,6 +135,17 @@ module _ (text r s t pre build : List ℕ) (major minor patch : ℕ) (first : nu
         build_is = build_is;
       } in
       (utf8, record { short = short; reads = reads }, pre_listed, build_listed)
+
+pub common_is : (text rest pre build : List ℕ) (p : Version) → IsReleaseAt text p rest → AreLists rest pre build
+    → IsUtf8 text × Parses MAX_SAFE_INTEGER text (record {
+      major = p.major;
+      minor = p.minor;
+      patch = p.patch;
+      pre_release = listed pre;
+      build = listed build;
+    }) × (is_listed pre ≡ true) × (is_listed build ≡ true)
+common_is text rest pre build p (short, no_pre, unbuilt, r, s, first, second, third) lists =
+    common_read text r s rest pre build p.major p.minor p.patch first second third lists short
 
 -- ---- lists that print as their text
 

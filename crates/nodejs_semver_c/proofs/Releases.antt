@@ -22,10 +22,10 @@ use Rattle.npm_words.specs.Grammar.{IsStrictNumber, no_build, no_pre_release, wr
 use Rattle.npm_words.specs.VersionText.{IsLooseVersion, IsStrictVersion, IsVersionTextIn}
 use Rattle.nodejs_semver_c.proofs.Reading.{marked_utf8, no_text, number_utf8}
 use Rattle.nodejs_semver_c.specs.Answers.{IsVersionOf}
-use Rattle.nodejs_semver_c.specs.Internal.Common.{IsReleaseText}
+use Rattle.nodejs_semver_c.specs.Internal.Common.{IsCommonText, IsReleaseAt, IsReleaseText}
 use Rattle.nodejs_semver_c.specs.Kept.{kept_value}
 use Rattle.nodejs_semver_c.specs.declared.kept.Version.{Version}
-use Rattle.nodejs_semver_c.specs.declared.TheConstants.{READING_NPM_LOOSE}
+use Rattle.nodejs_semver_c.specs.declared.TheConstants.{READING_NPM_LOOSE, READING_PORT}
 
 -- what is behind a dot
 behind_dot : (text : List ℕ) (n : ℕ) (rest : List ℕ) → dotted_with false MAX_SAFE_INTEGER text ≡ Some (n, rest)
@@ -94,6 +94,10 @@ module _ (text r s t : List ℕ) (major minor patch : ℕ) (first : number_with 
       ) (sym whole) in
       (utf8, record { short = short; reads = reads }, in_both text value characters trim strict loosely, printed, refl, refl)
 
+pub release_is : (text rest : List ℕ) (p : Version) → IsReleaseAt text p rest → (length rest == 0) ≡ true → IsReleaseText text p
+release_is text rest p (short, no_pre, unbuilt, r, s, first, second, third) last =
+    rw (no_pre, unbuilt) (release_read text r s rest p.major p.minor p.patch first second third last short)
+
 -- it is so in each reading
 in_each : (reading : ℕ) (text : List ℕ) (p : Version) → reading ≤ READING_NPM_LOOSE → IsReleaseText text p → IsVersionOf reading text (kept_value p)
 in_each zero text p few (u, port, npm, printed, pre, build) = (u, port)
@@ -105,6 +109,11 @@ pub found_in_each : (reading : ℕ) (text : List ℕ) (found : Option Version) �
     → IfSome found (λ p. IsVersionOf reading text (kept_value p) × (is_listed p.pre_release.now ≡ true) × (is_listed p.build.now ≡ true))
 found_in_each reading text None few h = h
 found_in_each reading text (Some p) few (u, port, npm, printed, pre, build) = (in_each reading text p few (u, port, npm, printed, pre, build), pre, build)
+
+pub port_found : (reading : ℕ) (text : List ℕ) (found : Option Version) → reading ≡ READING_PORT → IfSome found (IsCommonText text)
+    → IfSome found (λ p. IsVersionOf reading text (kept_value p) × (is_listed p.pre_release.now ≡ true) × (is_listed p.build.now ≡ true))
+port_found reading text None e h = h
+port_found reading text (Some p) e (u, port, pre, build) = rw e ((u, port), pre, build)
 
 -- and it prints as the text
 pub prints : (reading : ℕ) (text : List ℕ) (found : Option Version) → reading ≤ READING_NPM_LOOSE → IfSome found (IsReleaseText text)

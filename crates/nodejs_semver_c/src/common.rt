@@ -1,37 +1,37 @@
 // Common texts of versions, read from their bytes.
 
-ghost use Rattle.nodejs_semver_c.specs.Internal.Common.{AreLists, IsCommonText, IsReleaseText};
+ghost use Rattle.nodejs_semver_c.specs.Internal.Common.{AreLists, IsCommonText, IsReleaseAt};
+ghost use Rattle.nodejs_semver_c.specs.Internal.Common.{IsReleaseText};
 ghost use Rattle.npm_words.specs.Grammar.{is_strict_list};
 ghost use Rattle.npm_words.specs.Internal.Readings.{is_strict_identifier};
 ghost use Rattle.std.specs.Char.{is_ascii_digit};
 ghost use Rattle.std.specs.List.{list_all};
-ghost use Rattle.std.specs.Prelude.{◌≡◌, IfSome};
+ghost use Rattle.std.specs.Prelude.{◌≡◌, IfSome, List, ℕ};
 
 use crate::kept::Version;
 use nodejs_semver::MAX_LENGTH;
 use semver_pieces::{build_front, dotted_number, number_front, pre_release_front};
 
-/// The version that a whole text is, with no mark before it: three numbers, and identifiers or
-/// none. Most texts of versions are such. `None` is returned for others, of which some are
-/// versions too.
+/// The release at the front of a text, with no mark before it and without leading zeros, and what
+/// follows it. Most texts of versions begin so.
 #[inline(always)]
-pub fn common(text: &[u8]) -> Option<Version<'_>>
-    ensures { IfSome result (IsCommonText text.now) }
+pub fn release_front(text: &[u8]) -> Option<(Version<'_>, &[u8])>
+    ensures { IfSome result (λ front. IsReleaseAt text.now front.0 front.1.now) }
 {
     if text.len() > MAX_LENGTH {
         return None;
     }
-    let (major, rest) = number_front(true, text)?;
-    let (minor, rest) = dotted_number(true, rest)?;
-    let (patch, rest) = dotted_number(true, rest)?;
-    let (pre_release, build) = lists(rest)?;
-    Some(Version {
+    let (major, rest) = number_front(false, text)?;
+    let (minor, rest) = dotted_number(false, rest)?;
+    let (patch, rest) = dotted_number(false, rest)?;
+    let release = Version {
         major,
         minor,
         patch,
-        pre_release,
-        build,
-    })
+        pre_release: b"",
+        build: b"",
+    };
+    Some((release, rest))
 }
 
 /// The release that a whole text is, with no mark before it and without leading zeros: it is so in
@@ -40,36 +40,31 @@ pub fn common(text: &[u8]) -> Option<Version<'_>>
 pub fn release(text: &[u8]) -> Option<Version<'_>>
     ensures { IfSome result (IsReleaseText text.now) }
 {
-    if text.len() > MAX_LENGTH {
-        return None;
-    }
-    let (major, rest) = number_front(false, text)?;
-    let (minor, rest) = dotted_number(false, rest)?;
-    let (patch, rest) = dotted_number(false, rest)?;
+    let (release, rest) = release_front(text)?;
     if !rest.is_empty() {
         return None;
     }
+    Some(release)
+}
+
+/// The version of a text that a release is at the front of, where the rest is a pre-release and a
+/// build.
+#[inline(always)]
+pub fn with_lists<'a>(release: &Version<'a>, rest: &'a [u8]) -> Option<Version<'a>>
+    ensures { (text : List ℕ) → IsReleaseAt text release.now rest.now
+        → IfSome result (IsCommonText text) }
+{
+    let (pre_release, build) = some_lists(rest)?;
     Some(Version {
-        major,
-        minor,
-        patch,
-        pre_release: b"",
-        build: b"",
+        major: release.major,
+        minor: release.minor,
+        patch: release.patch,
+        pre_release,
+        build,
     })
 }
 
-// The texts of the pre-release and of the build that all of a text is. Mostly there are none.
-#[inline(always)]
-fn lists(text: &[u8]) -> Option<(&[u8], &[u8])>
-    ensures { IfSome result (λ lists. AreLists text.now lists.0.now lists.1.now) }
-{
-    if text.is_empty() {
-        return Some((b"", b""));
-    }
-    let (pre_release, build) = some_lists(text)?;
-    Some((pre_release, build))
-}
-
+// The texts of the pre-release and of the build that all of a text is.
 #[inline(never)]
 fn some_lists(text: &[u8]) -> Option<(&[u8], &[u8])>
     ensures { IfSome result (λ lists. AreLists text.now lists.0.now lists.1.now) }

@@ -38,6 +38,7 @@ mod kept_spans;
 mod messages;
 mod pieces;
 mod print;
+mod range_words;
 mod ranges;
 mod read;
 mod sets;

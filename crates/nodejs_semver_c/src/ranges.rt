@@ -13,8 +13,11 @@ ghost use Rattle.semver_core.specs.declared.cuts.bound.Bound.TheVariants.{After}
 ghost use Rattle.std.specs.List.{Any};
 ghost use Rattle.std.specs.Prelude.{◌≡◌, ◌⊎◌, IfSome, Option, false, true};
 
+use crate::asked::is_accepted;
 use crate::print::{print, print_found};
-use crate::{NO_MEMORY, OK, read};
+use crate::read::reading_of;
+use crate::{BAD_ARGUMENT, NO_MEMORY, OK, read};
+use nodejs_semver::RangeRef;
 use std::alloc::Global;
 
 /// Prints the range of a text in its normal form: `^1.2` as `>=1.2.0 <2.0.0-0`.
@@ -55,7 +58,53 @@ pub extern "C" fn nodejs_semver_range_satisfies(
         OnVersion reading version.now result kept (λ v.
         (result ≡ OK) × (answer.new ≡ accepts r v include_prerelease))) }
 {
-    let range = ok_or_return!(read::range(alloc, reading, include_prerelease, range));
+    if let Some(interval) = read::common_range(reading, include_prerelease, range)
+        && let Some(version) = read::common_version(reading, version)
+    {
+        *answer = is_accepted(&[interval], &version, include_prerelease);
+        return OK;
+    }
+    any_satisfies(alloc, reading, range, version, include_prerelease, answer)
+}
+
+// The same of all texts, as a call.
+#[inline(never)]
+fn any_satisfies(
+    alloc: Global,
+    reading: u32,
+    range: &[u8],
+    version: &[u8],
+    include_prerelease: bool,
+    answer: &mut bool,
+) -> u32
+    ensures { let kept = answer.new ≡ answer.old in
+        OnRange reading include_prerelease range.now result kept (λ r.
+        OnVersion reading version.now result kept (λ v.
+        (result ≡ OK) × (answer.new ≡ accepts r v include_prerelease))) }
+{
+    let Some(grammar) = reading_of(reading) else {
+        return BAD_ARGUMENT;
+    };
+    let text = ok_or_return!(read::text(range));
+    // A range is long: it is asked where it is read.
+    match &grammar.spelled_range(alloc, include_prerelease, text) {
+        Ok(range) => tell_satisfies(range, reading, version, include_prerelease, answer),
+        Err(failure) => grammar.status_of(include_prerelease, text, failure),
+    }
+}
+
+// Whether a range accepts the version of a text.
+fn tell_satisfies(
+    range: &RangeRef<'_>,
+    reading: u32,
+    version: &[u8],
+    include_prerelease: bool,
+    answer: &mut bool,
+) -> u32
+    ensures { let kept = answer.new ≡ answer.old in
+        OnVersion reading version.now result kept (λ v.
+        (result ≡ OK) × (answer.new ≡ accepts range.now v include_prerelease)) }
+{
     let version = ok_or_return!(read::version(reading, version));
     *answer = range.satisfies_with_prerelease(&version, include_prerelease);
     OK

@@ -4,16 +4,20 @@ ghost use Rattle.nodejs_semver_c.specs.Answers.{IsRangeOf, IsVersionOf};
 ghost use Rattle.nodejs_semver_c.specs.Answers.{RefusesRange, RefusesText, RefusesVersion};
 ghost use Rattle.nodejs_semver_c.specs.Internal.Failures.{IsFailure};
 ghost use Rattle.nodejs_semver_c.specs.Kept.{kept_value};
+ghost use Rattle.nodejs_semver_c.specs.KeptRanges.{kept_span};
 ghost use Rattle.nodejs_semver_c.specs.Readings.{IsWide, Spells, SpellsNoRange, SpellsRange};
 ghost use Rattle.nodejs_semver_c.specs.Readings.{WantsMemory, reading_of};
 ghost use Rattle.semver_core.specs.Failures.{NoValue};
 ghost use Rattle.semver_core.specs.Printing.Text.{version_text};
 ghost use Rattle.semver_core.specs.Text.Identifiers.{is_listed};
 ghost use Rattle.semver_core.specs.Values.Versions.{VersionValue};
-ghost use Rattle.std.specs.Prelude.{◌≡◌, ◌⊎◌, IfErr, IfOk, IfSome, IsTrue, IsUtf8, false, true};
+ghost use Rattle.std.specs.Prelude.{◌∷◌, ◌≡◌, ◌⊎◌, [], IfErr, IfOk, IfSome, IsTrue, IsUtf8, false};
+ghost use Rattle.std.specs.Prelude.{true};
 
-use crate::common::{common, release};
+use crate::common::{release, release_front, with_lists};
+use crate::intervals::Interval;
 use crate::kept::{Version, lent};
+use crate::range_words::range_word;
 use crate::{
     BAD_ARGUMENT, BAD_RANGE, BAD_VERSION, NO_MEMORY, NOT_UTF8, READING_NPM, READING_NPM_LOOSE,
     READING_PORT, TOO_LONG,
@@ -152,11 +156,17 @@ pub fn common_version(reading: u32, bytes: &[u8]) -> Option<Version<'_>>
     ensures { IfSome result (λ p. IsVersionOf reading bytes.now (kept_value p)
         × (is_listed p.pre_release.now ≡ true) × (is_listed p.build.now ≡ true)) }
 {
-    match reading {
-        READING_PORT => common(bytes),
-        _ if reading <= READING_NPM_LOOSE => release(bytes),
-        _ => None,
+    if reading > READING_NPM_LOOSE {
+        return None;
     }
+    let (release, rest) = release_front(bytes)?;
+    if rest.is_empty() {
+        return Some(release);
+    }
+    if reading == READING_PORT {
+        return with_lists(&release, rest);
+    }
+    None
 }
 
 /// Whether a text is one of a release that prints as the text.
@@ -195,6 +205,18 @@ fn any_version(reading: u32, bytes: &[u8]) -> Result<VersionRef<'_>, u32>
         Ok(version) => Ok(version),
         Err(_) => Err(BAD_VERSION),
     }
+}
+
+/// The interval of a range text that most ranges have, or `None`.
+#[inline(always)]
+pub fn common_range(reading: u32, include_prerelease: bool, bytes: &[u8]) -> Option<Interval<'_>>
+    ensures { IfSome result (λ i.
+        IsRangeOf reading include_prerelease bytes.now (kept_span i ∷ [])) }
+{
+    if reading > READING_NPM {
+        return None;
+    }
+    range_word(include_prerelease, bytes)
 }
 
 /// The range of a text, or the status that rejects it. npm may include pre-releases in it.
