@@ -1,7 +1,7 @@
 // The parts of the keys of what intervals accept.
 
 ghost use Rattle.std.specs.Prelude.{◌≡◌, ◌++◌, IfOk, OnOk};
-ghost use Rattle.key_spans.specs.Internal.Kinds.{all_of_kind, of_kind, start_place, stop_place};
+ghost use Rattle.key_spans.specs.Internal.Kinds.{all_of_kind, first_place, of_kind, place};
 ghost use Rattle.key_spans.specs.Internal.Kinds.{stretch};
 ghost use Rattle.key_spans.specs.Internal.Pieces.{IsCanonicalOf};
 ghost use Rattle.key_spans.specs.Internal.Places.{bound_stretch, greater, lesser, own_part};
@@ -10,7 +10,7 @@ ghost use Rattle.nodejs_semver.specs.Internal.Shorthands.{spans_of};
 ghost use Rattle.nodejs_semver.specs.Ranges.View.{bound_of, span_of};
 
 use crate::canon::{Part, canonical};
-use crate::marks::{END, lowest, pre_place, release_key, release_place, version_place};
+use crate::marks::{END, key_behind, key_of, lowest, next_key, release_key};
 use nodejs_semver::{VersionPoint, Versioned};
 use semver_core::cuts::{Bound, Interval};
 use std::alloc::{AllocError, Global};
@@ -24,35 +24,40 @@ pub(crate) enum Kind {
     Versions,
 }
 
-// Where those of an interval start.
-fn start_place<V: VersionPoint>(
-    alloc: Global,
-    kind: Kind,
-    lower: &Bound<V>,
-) -> Result<Vec<u8>, AllocError>
-    ensures { IfOk result (λ bytes.
-        bytes.items ≡ start_place kind (bound_of V.value lower.now)) }
+// Where those of an interval without a lower bound start.
+fn first_place(kind: Kind) -> &'static [u8]
+    ensures { result.now ≡ first_place kind }
 {
     match kind {
-        Kind::Releases => release_place(alloc, lower, &[0, 0, 0, 3]),
-        Kind::PreReleases => pre_place(alloc, lower, &[]),
-        Kind::Versions => version_place(alloc, lower, &[0, 0, 0, 1, 0, 0]),
+        Kind::Releases => &[0, 0, 0, 3],
+        Kind::PreReleases => &[],
+        Kind::Versions => &[0, 0, 0, 1, 0, 0],
     }
 }
 
-// Where they stop.
-fn stop_place<V: VersionPoint>(
+// The key of the first of them past a bound; for pre-releases it is that of a release, if none is
+// between.
+fn place<V: VersionPoint>(
     alloc: Global,
     kind: Kind,
-    upper: &Bound<V>,
+    bound: &Bound<V>,
+    none: &[u8],
 ) -> Result<Vec<u8>, AllocError>
     ensures { IfOk result (λ bytes.
-        bytes.items ≡ stop_place kind (bound_of V.value upper.now)) }
+        bytes.items ≡ place kind (bound_of V.value bound.now) none.now) }
 {
-    match kind {
-        Kind::Releases => release_place(alloc, upper, &END),
-        Kind::PreReleases => pre_place(alloc, upper, &END),
-        Kind::Versions => version_place(alloc, upper, &END),
+    match bound {
+        Bound::Unbounded => none.to_vec(alloc),
+        Bound::After(version) if version.is_release() => match kind {
+            Kind::Releases => next_key(alloc, version, true),
+            Kind::PreReleases => key_of(alloc, version),
+            Kind::Versions => next_key(alloc, version, false),
+        },
+        Bound::Before(version) | Bound::After(version) if matches!(kind, Kind::Releases) => {
+            release_key(alloc, version)
+        }
+        Bound::Before(version) => key_of(alloc, version),
+        Bound::After(version) => key_behind(alloc, version),
     }
 }
 
@@ -64,8 +69,8 @@ fn part_of<V: VersionPoint>(
 ) -> Result<Part, AllocError>
     ensures { IfOk result (λ part. part ≡ stretch kind (span_of V.value interval.now)) }
 {
-    let start = start_place(alloc, kind, interval.lower())?;
-    let stop = stop_place(alloc, kind, interval.upper())?;
+    let start = place(alloc, kind, interval.lower(), first_place(kind))?;
+    let stop = place(alloc, kind, interval.upper(), &END)?;
     Ok(Part { start, stop })
 }
 

@@ -1,22 +1,19 @@
 // The keys at which the parts of an interval begin and end.
 
-ghost use Rattle.std.specs.Prelude.{◌≡◌, false, IfOk};
+ghost use Rattle.std.specs.Prelude.{◌≡◌, false, if◌then◌else◌, IfOk};
 ghost use Rattle.key_spans.specs.Internal.Places.{lowest_key, next_numbers, next_place, one_more};
-ghost use Rattle.key_spans.specs.Internal.Places.{pre_place, release_key, release_place};
-ghost use Rattle.key_spans.specs.Internal.Places.{version_place};
-ghost use Rattle.nodejs_semver.specs.Ranges.View.{bound_of};
+ghost use Rattle.key_spans.specs.Internal.Places.{release_key};
 ghost use Rattle.semver_core.specs.Keys.{key};
 ghost use Rattle.semver_core.specs.Values.Versions.{is_release, lowest};
 
-use nodejs_semver::{Version, VersionPoint, VersionRef, Versioned};
-use semver_core::cuts::Bound;
+use nodejs_semver::{Version, VersionRef, Versioned};
 use std::alloc::{AllocError, Global};
 
 // Above all keys.
 pub(crate) const END: [u8; 1] = [255];
 
 // The key of a version.
-fn key_of<V: Versioned>(alloc: Global, version: &V) -> Result<Vec<u8>, AllocError>
+pub(crate) fn key_of<V: Versioned>(alloc: Global, version: &V) -> Result<Vec<u8>, AllocError>
     ensures { IfOk result (λ bytes. bytes.items ≡ key (V.value version.now)) }
 {
     let mut bytes = Vec::new(alloc);
@@ -25,7 +22,7 @@ fn key_of<V: Versioned>(alloc: Global, version: &V) -> Result<Vec<u8>, AllocErro
 }
 
 // The key of a pre-release with one more identifier, the number 0.
-fn key_behind<V: Versioned>(alloc: Global, version: &V) -> Result<Vec<u8>, AllocError>
+pub(crate) fn key_behind<V: Versioned>(alloc: Global, version: &V) -> Result<Vec<u8>, AllocError>
     ensures { IfOk result (λ bytes. is_release (V.value version.now) ≡ false
         → bytes.items ≡ key (one_more (V.value version.now))) }
 {
@@ -66,90 +63,18 @@ fn next_numbers<V: Versioned>(version: &V) -> Option<(u64, u64, u64)>
     }
 }
 
-// The key of the release after the numbers of a version.
-fn next_release<V: Versioned>(alloc: Global, version: &V) -> Result<Vec<u8>, AllocError>
-    ensures { IfOk result (λ bytes.
-        bytes.items ≡ next_place release_key (V.value version.now)) }
+// The key of the release of the numbers after those of a version, or of their least pre-release.
+pub(crate) fn next_key<V: Versioned>(
+    alloc: Global,
+    version: &V,
+    is_release: bool,
+) -> Result<Vec<u8>, AllocError>
+    ensures { IfOk result (λ bytes. bytes.items
+        ≡ next_place (if is_release then release_key else lowest_key) (V.value version.now)) }
 {
     match next_numbers(version) {
         None => END.to_vec(alloc),
-        Some(numbers) => Version::from(numbers).key(alloc),
-    }
-}
-
-// The key of the least pre-release after the numbers of a version.
-fn next_lowest<V: Versioned>(alloc: Global, version: &V) -> Result<Vec<u8>, AllocError>
-    ensures { IfOk result (λ bytes.
-        bytes.items ≡ next_place lowest_key (V.value version.now)) }
-{
-    match next_numbers(version) {
-        None => END.to_vec(alloc),
+        Some(numbers) if is_release => Version::from(numbers).key(alloc),
         Some((major, minor, patch)) => lowest(major, minor, patch).key(alloc),
-    }
-}
-
-// The key of the first release past a bound.
-pub(crate) fn release_place<V: VersionPoint>(
-    alloc: Global,
-    bound: &Bound<V>,
-    none: &[u8],
-) -> Result<Vec<u8>, AllocError>
-    ensures { IfOk result (λ bytes.
-        bytes.items ≡ release_place (bound_of V.value bound.now) none.now) }
-{
-    match bound {
-        Bound::Unbounded => none.to_vec(alloc),
-        Bound::Before(version) => release_key(alloc, version),
-        Bound::After(version) => {
-            if version.is_release() {
-                next_release(alloc, version)
-            } else {
-                release_key(alloc, version)
-            }
-        }
-    }
-}
-
-// The key of the first pre-release past a bound, or of a release with none between.
-pub(crate) fn pre_place<V: VersionPoint>(
-    alloc: Global,
-    bound: &Bound<V>,
-    none: &[u8],
-) -> Result<Vec<u8>, AllocError>
-    ensures { IfOk result (λ bytes.
-        bytes.items ≡ pre_place (bound_of V.value bound.now) none.now) }
-{
-    match bound {
-        Bound::Unbounded => none.to_vec(alloc),
-        Bound::Before(version) => key_of(alloc, version),
-        Bound::After(version) => {
-            if version.is_release() {
-                key_of(alloc, version)
-            } else {
-                key_behind(alloc, version)
-            }
-        }
-    }
-}
-
-// The key of the first version past a bound.
-pub(crate) fn version_place<V: VersionPoint>(
-    alloc: Global,
-    bound: &Bound<V>,
-    none: &[u8],
-) -> Result<Vec<u8>, AllocError>
-    ensures { IfOk result (λ bytes.
-        bytes.items ≡ version_place (bound_of V.value bound.now) none.now) }
-{
-    match bound {
-        Bound::Unbounded => none.to_vec(alloc),
-        Bound::Before(version) => key_of(alloc, version),
-        Bound::After(version) => {
-            if version.is_release() {
-                next_lowest(alloc, version)
-            } else {
-                key_behind(alloc, version)
-            }
-        }
     }
 }

@@ -3,26 +3,25 @@ use Rattle.std.specs.Prelude.{[], ◌∷◌, List, ℕ}
 use Rattle.semver_core.specs.Cuts.{Span}
 use Rattle.semver_core.specs.Values.Versions.{VersionValue}
 use Rattle.semver_core.specs.declared.cuts.bound.Bound.{Bound}
-use Rattle.key_spans.specs.Internal.Places.{end_key, lowest_key, pre_place, pre_releases, pre_stretch, pre_stretches}
+use Rattle.key_spans.specs.Internal.Places.{end_key, lowest_key, pre_place, pre_releases, pre_stretches}
 use Rattle.key_spans.specs.Internal.Places.{release_key, release_place, release_stretch, releases, version_place, version_stretch, versions}
 use Rattle.key_spans.specs.Internal.Sets.{Stretch}
 use Rattle.key_spans.specs.declared.build.Kind.{Kind}
 use Rattle.key_spans.specs.declared.build.Kind.TheVariants.{PreReleases, Releases, Versions}
 
-abbrev pub start_place : Kind → Bound VersionValue → List ℕ
-start_place Releases b = release_place b (release_key 0 0 0)
-start_place PreReleases b = pre_place b []
-start_place Versions b = version_place b (lowest_key 0 0 0)
+-- where the versions begin, and where they do past a bound; what stands for no bound is given
+abbrev pub first_place : Kind → List ℕ
+first_place Releases = release_key 0 0 0
+first_place PreReleases = []
+first_place Versions = lowest_key 0 0 0
 
-abbrev pub stop_place : Kind → Bound VersionValue → List ℕ
-stop_place Releases b = release_place b end_key
-stop_place PreReleases b = pre_place b end_key
-stop_place Versions b = version_place b end_key
+abbrev pub place : Kind → Bound VersionValue → List ℕ → List ℕ
+place Releases b none = release_place b none
+place PreReleases b none = pre_place b none
+place Versions b none = version_place b none
 
 abbrev pub stretch : Kind → Span VersionValue → Stretch (List ℕ)
-stretch Releases s = release_stretch s
-stretch PreReleases s = pre_stretch s
-stretch Versions s = version_stretch s
+stretch k s = record { start = place k s.lower (first_place k); stop = place k s.upper end_key }
 
 -- what is wanted of an interval, and of several
 abbrev pub of_kind : Kind → Span VersionValue → List (Stretch (List ℕ))
