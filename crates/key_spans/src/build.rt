@@ -5,7 +5,7 @@ ghost use Rattle.key_spans.specs.Internal.Kinds.{all_of_kind, first_place, of_ki
 ghost use Rattle.key_spans.specs.Internal.Kinds.{stretch};
 ghost use Rattle.key_spans.specs.Internal.Pieces.{IsCanonicalOf};
 ghost use Rattle.key_spans.specs.Internal.Places.{bound_stretch, greater, lesser, own_part};
-ghost use Rattle.key_spans.specs.Internal.Places.{own_stretch, pre_stretches};
+ghost use Rattle.key_spans.specs.Internal.Places.{pre_stretches};
 ghost use Rattle.nodejs_semver.specs.Internal.Shorthands.{spans_of};
 ghost use Rattle.nodejs_semver.specs.Ranges.View.{bound_of, span_of};
 
@@ -48,16 +48,19 @@ fn place<V: VersionPoint>(
 {
     match bound {
         Bound::Unbounded => none.to_vec(alloc),
+        Bound::Before(version) => match kind {
+            Kind::Releases => release_key(alloc, version),
+            _ => key_of(alloc, version),
+        },
         Bound::After(version) if version.is_release() => match kind {
             Kind::Releases => next_key(alloc, version, true),
             Kind::PreReleases => key_of(alloc, version),
             Kind::Versions => next_key(alloc, version, false),
         },
-        Bound::Before(version) | Bound::After(version) if matches!(kind, Kind::Releases) => {
-            release_key(alloc, version)
-        }
-        Bound::Before(version) => key_of(alloc, version),
-        Bound::After(version) => key_behind(alloc, version),
+        Bound::After(version) => match kind {
+            Kind::Releases => release_key(alloc, version),
+            _ => key_behind(alloc, version),
+        },
     }
 }
 
@@ -109,24 +112,7 @@ fn own_part<V: Versioned>(alloc: Global, within: &Part, version: &V) -> Result<P
     Part::between(alloc, start, stop)
 }
 
-// Adds the pre-releases of a version's numbers within a part, if the version is one.
-fn add_own<V: Versioned>(
-    alloc: Global,
-    within: &Part,
-    version: &V,
-    parts: &mut Vec<Part>,
-) -> Result<(), AllocError>
-    ensures { OnOk result (parts.new.items ≡ parts.old.items
-        ++ own_stretch within.now.start within.now.stop (V.value version.now)) }
-{
-    if version.is_release() {
-        return Ok(());
-    }
-    parts.push(own_part(alloc, within, version)?)?;
-    Ok(())
-}
-
-// Adds the pre-releases that a bound lets in within a part.
+// Adds the pre-releases that a bound lets in within a part: those of its numbers, if it is one.
 fn add_bound<V: VersionPoint>(
     alloc: Global,
     within: &Part,
@@ -136,10 +122,13 @@ fn add_bound<V: VersionPoint>(
     ensures { OnOk result (parts.new.items ≡ parts.old.items
         ++ bound_stretch within.now.start within.now.stop (bound_of V.value bound.now)) }
 {
-    match bound {
-        Bound::Unbounded => Ok(()),
-        Bound::Before(version) | Bound::After(version) => add_own(alloc, within, version, parts),
+    let (Bound::Before(version) | Bound::After(version)) = bound else {
+        return Ok(());
+    };
+    if !version.is_release() {
+        parts.push(own_part(alloc, within, version)?)?;
     }
+    Ok(())
 }
 
 // Adds the pre-releases of an interval.
