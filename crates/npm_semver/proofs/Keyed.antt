@@ -89,6 +89,11 @@ not_same_if v w eq order compares tells off same =
     let tied : order ≡ Equal = compares ∙ ap (λ (x : VersionValue). precedence x w) same ∙ tied_itself precedence_total w in
     let bad : true ≡ false = sym (tells ∙ ap is_eq tied) ∙ off in absurd (cc)
 
+pub not_bare : (v w : VersionValue) (build : List Id) (none : Bool) → build ≡ v.build → none ≡ is_empty build → none ≡ false
+    → w.build ≡ [] → v ≡ w → ⊥
+not_bare v w build none of is off bare same =
+    let bad : true ≡ false = sym (is ∙ ap is_empty (of ∙ ap (λ (x : VersionValue). x.build) same ∙ bare)) ∙ off in absurd (cc)
+
 key_once : (v w : VersionValue) → IsVersion v → IsVersion w → v.build ≡ [] → w.build ≡ [] → key v ≡ key w → v ≡ w
 key_once v w one other bare plain same = same_version v w
     (sym (key_cmp v w one other) ∙ ap (λ (k : List ℕ). slice_cmp nat_cmp (key v) k) (sym same) ∙ key_cmp v v one one ∙ tied_itself precedence_total v)

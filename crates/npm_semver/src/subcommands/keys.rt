@@ -21,7 +21,7 @@ use crate::caret::Marked;
 use crate::question::lines_of;
 use crate::subcommands::replies::{Reply, Trouble, answer};
 use hex::FromHexError;
-use nodejs_semver::{Failure, Version, VersionRef, Versioned};
+use nodejs_semver::{Failure, Version, Versioned};
 use npm_reading::Reading;
 use npm_words::laws::npm_reads_once;
 use std::alloc::{AllocError, Global};
@@ -117,8 +117,8 @@ fn reply_to_lines<'a>(
 {
     let mut output = String::new(alloc);
     for &text in lines {
-        match push_row(alloc, row, text, &mut output) {
-            Ok(true) => {}
+        match push_shown(alloc, row, text, &mut output) {
+            Ok(true) => output.push('\n')?,
             Ok(false) => return Err(Failure::Refused(trouble(row, text))),
             Err(error) => return Err(Failure::Memory(error)),
         }
@@ -134,20 +134,7 @@ fn trouble<'a>(row: Row, text: &'a str) -> Trouble<'a> {
     }
 }
 
-// Appends the line of a text. Returns whether the text has one.
-fn push_row(alloc: Global, row: Row, text: &str, output: &mut String) -> Result<bool, AllocError>
-    ensures some { IfOk result (λ has. has ≡ true → (shown : List ℕ) × has_row row text.now shown
-        × (string_bytes output.new ≡ string_bytes output.old ++ line shown)) }
-    ensures none { IfOk result (λ has. has ≡ false → NoValue (has_row row text.now)) }
-{
-    let has = push_shown(alloc, row, text, output)?;
-    if has {
-        output.push('\n')?;
-    }
-    Ok(has)
-}
-
-// Appends what the line of a text shows.
+// Appends what the line of a text shows. Returns whether the text has one.
 fn push_shown(alloc: Global, row: Row, text: &str, output: &mut String) -> Result<bool, AllocError>
     ensures some { IfOk result (λ has. has ≡ true → (shown : List ℕ) × has_row row text.now shown
         × (string_bytes output.new ≡ string_bytes output.old ++ shown)) }
@@ -257,16 +244,7 @@ fn is_read(text: &str, version: &Version) -> bool
         include_prerelease: false,
     };
     match npm_reading::version(text, strict) {
-        Ok(read) => is_same(&read, version),
+        Ok(read) => read.build().is_empty() && read.cmp_precedence(version).is_eq(),
         Err(_) => false,
     }
-}
-
-// Whether a version has no build metadata and is else as another one.
-fn is_same(read: &VersionRef<'_>, version: &Version) -> bool
-    requires { version.now.build ≡ [] }
-    ensures some { result ≡ true → read.now ≡ version.now }
-    ensures none { result ≡ false → ¬ (read.now ≡ version.now) }
-{
-    read.build().is_empty() && read.cmp_precedence(version).is_eq()
 }

@@ -44,17 +44,9 @@ pub fn spans<'a>(alloc: Global, words: &'a [String]) -> Result<Reply<'a>, Failur
     ensures refused { RefusedOnlyIf result
         (NoValue (Answers (codes "spans" ∷ map string_bytes words.now))) }
 {
-    match words {
-        [text] => spans_of(alloc, text),
-        _ => Err(Failure::Refused(Trouble::Usage("spans RANGE"))),
-    }
-}
-
-fn spans_of<'a>(alloc: Global, text: &'a str) -> Result<Reply<'a>, Failure<Trouble<'a>>>
-    ensures ok { IfOk result (λ reply. Answers (codes "spans" ∷ text.now ∷ []) (said reply)) }
-    ensures refused { RefusedOnlyIf result
-        (NoValue (Answers (codes "spans" ∷ text.now ∷ []))) }
-{
+    let [text] = words else {
+        return Err(Failure::Refused(Trouble::Usage("spans RANGE")));
+    };
     match read_spans(alloc, text) {
         Ok(spans) => listed(alloc, &spans),
         Err(failure) => Err(failure),
@@ -89,18 +81,10 @@ fn listed<'a>(alloc: Global, spans: &[KeySpan]) -> Result<Reply<'a>, Failure<Tro
         (if is_empty spans.now then No else Yes)) }
 {
     let mut output = String::new(alloc);
-    write_spans(alloc, spans, &mut output)?;
-    Ok(answer(!spans.is_empty(), output))
-}
-
-fn write_spans(alloc: Global, spans: &[KeySpan], output: &mut String) -> Result<(), AllocError>
-    ensures { OnOk result (string_bytes output.new ≡ string_bytes output.old
-        ++ flat_map (λ s. line (span_text s)) spans.now) }
-{
     for span in spans {
-        write_line(alloc, span, output)?;
+        write_line(alloc, span, &mut output)?;
     }
-    Ok(())
+    Ok(answer(!spans.is_empty(), output))
 }
 
 // The line of a span.
@@ -137,23 +121,9 @@ pub fn sql<'a>(alloc: Global, words: &'a [String]) -> Result<Reply<'a>, Failure<
     ensures refused { RefusedOnlyIf result
         (NoValue (Answers (codes "sql" ∷ map string_bytes words.now))) }
 {
-    match words {
-        [text, column, options @ ..] => sql_of(alloc, text, column, options),
-        _ => Err(Failure::Refused(Trouble::Usage(SQL))),
-    }
-}
-
-fn sql_of<'a>(
-    alloc: Global,
-    text: &'a str,
-    column: &'a str,
-    options: &'a [String],
-) -> Result<Reply<'a>, Failure<Trouble<'a>>>
-    ensures ok { IfOk result (λ reply. Answers
-        (codes "sql" ∷ text.now ∷ column.now ∷ map string_bytes options.now) (said reply)) }
-    ensures refused { RefusedOnlyIf result (NoValue (Answers
-        (codes "sql" ∷ text.now ∷ column.now ∷ map string_bytes options.now))) }
-{
+    let [text, column, options @ ..] = words else {
+        return Err(Failure::Refused(Trouble::Usage(SQL)));
+    };
     let dialect = dialect_in(options)?;
     if !is_column(column.as_bytes()) {
         return Err(Failure::Refused(Trouble::NoColumn(column)));
@@ -172,33 +142,8 @@ fn dialect_in<'a>(options: &'a [String]) -> Result<Dialect, Failure<Trouble<'a>>
 {
     match options {
         [] => Ok(Dialect::Sqlite),
-        [option, word] => behind(option, word),
+        [option, word] if option.as_str() == "--dialect" => Dialect::of(word),
         _ => Err(Failure::Refused(Trouble::Usage(SQL))),
-    }
-}
-
-// The dialect behind `--dialect`.
-#[tactic(auto, using(crate::proofs::Spans::no_behind))]
-fn behind<'a>(option: &'a str, word: &'a str) -> Result<Dialect, Failure<Trouble<'a>>>
-    ensures ok { IfOk result (λ dialect. HasDialect (option.now ∷ word.now ∷ []) dialect) }
-    ensures refused { RefusedOnlyIf result (NoValue (HasDialect (option.now ∷ word.now ∷ []))) }
-{
-    match option {
-        "--dialect" => named(word),
-        _ => Err(Failure::Refused(Trouble::Usage(SQL))),
-    }
-}
-
-// The dialect of a name.
-#[tactic(auto, using(crate::proofs::Spans::no_name))]
-fn named<'a>(word: &'a str) -> Result<Dialect, Failure<Trouble<'a>>>
-    ensures ok { IfOk result (λ dialect. dialect_of word.now ≡ Some dialect) }
-    ensures refused { RefusedOnlyIf result
-        (NoValue (λ dialect. dialect_of word.now ≡ Some dialect)) }
-{
-    match Dialect::of(word) {
-        Some(dialect) => Ok(dialect),
-        None => Err(Failure::Refused(Trouble::NoDialect(word))),
     }
 }
 
@@ -246,15 +191,17 @@ fn printed<'a>(
 
 impl Dialect {
     // The dialect that a word names.
-    fn of(word: &str) -> Option<Dialect>
-        ensures { result ≡ dialect_of word.now }
+    fn of<'a>(word: &'a str) -> Result<Dialect, Failure<Trouble<'a>>>
+        ensures ok { IfOk result (λ dialect. dialect_of word.now ≡ Some dialect) }
+        ensures refused { RefusedOnlyIf result
+            (NoValue (λ dialect. dialect_of word.now ≡ Some dialect)) }
     {
         match word {
-            "sqlite" => Some(Dialect::Sqlite),
-            "postgres" => Some(Dialect::Postgres),
-            "duckdb" => Some(Dialect::Duckdb),
-            "mysql" => Some(Dialect::Mysql),
-            _ => None,
+            "sqlite" => Ok(Dialect::Sqlite),
+            "postgres" => Ok(Dialect::Postgres),
+            "duckdb" => Ok(Dialect::Duckdb),
+            "mysql" => Ok(Dialect::Mysql),
+            _ => Err(Failure::Refused(Trouble::NoDialect(word))),
         }
     }
 
@@ -310,7 +257,11 @@ impl Dialect {
         self.write_bound(alloc, column, " >= ", &span.start, output)?;
         output.push_str(" AND ")?;
         self.write_bound(alloc, column, " < ", &span.stop, output)?;
-        self.write_counted(column, span.releases_only, output)
+        if span.releases_only {
+            output.push_str(" AND ")?;
+            self.write_released(column, output)?;
+        }
+        Ok(())
     }
 
     // That a column compares so with bytes.
@@ -328,23 +279,6 @@ impl Dialect {
         output.push_str(column)?;
         output.push_str(sign)?;
         self.write_literal(alloc, bytes, output)
-    }
-
-    // That only releases count.
-    fn write_counted(
-        self,
-        column: &str,
-        releases_only: bool,
-        output: &mut String,
-    ) -> Result<(), AllocError>
-        ensures { OnOk result (string_bytes output.new ≡ string_bytes output.old
-            ++ (if releases_only then codes " AND " ++ is_released self column.now else [])) }
-    {
-        if !releases_only {
-            return Ok(());
-        }
-        output.push_str(" AND ")?;
-        self.write_released(column, output)
     }
 
     // Bytes as a literal.

@@ -11,8 +11,9 @@ loop-text-init c = rw c.new-output.ensures.bytes Spec.AreLines.none
 
 pub loop-text-preserved : goal.loop-text-preserved
 loop-text-preserved c =
+    let has = c.in-Ok-true.ensures.some c.in-Ok-true.field-0-test in
     rw (take_more c.args.lines.now c.loop-text.text-index (record { ref_ptr = (0, 0); now = [] }) c.loop-text-test.true, map-append)
-    (lines_more _ _ _ _ _ c.loop-text.invariant (c.in-Ok-true.ensures.some c.in-Ok-true.field-0-test))
+    (lines_more _ _ _ _ _ c.loop-text.invariant (has.0, has.1, grind (arith, common_steps, has.2)))
 
 pub returns-in-Ok-false-clause-refused : goal.returns-in-Ok-false-clause-refused
 returns-in-Ok-false-clause-refused c =
