@@ -22,7 +22,7 @@ pub use Rattle.nodejs_semver.specs.Internal.Readings.{partial_front_view, partia
 pub use Rattle.nodejs_semver.specs.Internal.Readings.{sign_pair_view, sign_view, table_view}
 pub use Rattle.nodejs_semver.specs.Internal.RunsFrom.{runs_of}
 pub use Rattle.nodejs_semver.specs.Internal.SameLaws.{range_alike, range_equiv}
-pub use Rattle.nodejs_semver.specs.Internal.Sets.{AreTaking, is_range_span, meets_of, minus, signed_text, span_text}
+pub use Rattle.nodejs_semver.specs.Internal.Sets.{AreTaking, is_range_span, meets_of, minus, span_text}
 pub use Rattle.nodejs_semver.specs.Internal.Shorthands.{build_by, lies_above, lies_below, remainder, spans_of}
 pub use Rattle.nodejs_semver.specs.Internal.Shorthands.{value_of}
 pub use Rattle.semver_core.specs.Internal.Gate.{names}
@@ -32,7 +32,7 @@ pub use Rattle.nodejs_semver.specs.Internal.Words.{signed_word, upper_behind, up
 pub use Rattle.nodejs_semver.specs.Internal.Writes.{writes}
 pub use Rattle.nodejs_semver.specs.Json.{json_string, ReadsString}
 pub use Rattle.nodejs_semver.specs.Printing.RoundTrip.{bounds_back, is_printable}
-pub use Rattle.nodejs_semver.specs.Printing.Text.{range_text}
+pub use Rattle.nodejs_semver.specs.Printing.Text.{lower_text, range_text, upper_text}
 pub use Rattle.nodejs_semver.specs.Ranges.Algebra.{covers_one, difference, intersection, list_holds}
 pub use Rattle.nodejs_semver.specs.Ranges.Best.{IsMax, IsMaxOf, IsMin, replaces}
 pub use Rattle.nodejs_semver.specs.Ranges.Equality.{range_eq}

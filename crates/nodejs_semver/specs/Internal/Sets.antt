@@ -1,6 +1,6 @@
 -- For proofs and private contracts: the intervals of ranges, and the lists of the set operations over any order. No list stands
 -- for the empty set.
-use Rattle.std.specs.Prelude.{◌≡◌, ◌++◌, ◌<◌, ◌⊎◌, ℕ, ◌&&◌, Bool, true, List, [], length, Option, unwrap_or}
+use Rattle.std.specs.Prelude.{◌≡◌, ◌<◌, ◌⊎◌, ℕ, ◌&&◌, Bool, true, List, [], length, Option, unwrap_or}
 use Rattle.std.specs.List.{flat_map, fold, list_any}
 use Rattle.std.specs.Option.{option_to_list}
 use Rattle.std.specs.Ordering.{eq_of_both, on}
@@ -8,9 +8,6 @@ use Rattle.std.specs.declared.cmp.Ordering.{Ordering}
 use Rattle.semver_core.specs.Cuts.{Span, bound_eq, has_bound, is_interval, meet}
 use Rattle.semver_core.specs.Values.Order.{precedence, version_eq}
 use Rattle.semver_core.specs.Values.Versions.{VersionValue}
-use Rattle.semver_core.specs.Printing.Text.{version_text}
-use Rattle.semver_core.specs.declared.cuts.bound.Bound.{Bound}
-use Rattle.semver_core.specs.declared.cuts.bound.Bound.TheVariants.{After, Before}
 use Rattle.nodejs_semver.specs.Printing.Text.{bounds_text}
 use Rattle.nodejs_semver.specs.Ranges.Algebra.{list_holds}
 use Rattle.nodejs_semver.specs.Internal.Shorthands.{remainder}
@@ -39,10 +36,6 @@ span_eq = eq_of_both (on (λ s. s.lower) (bound_eq version_eq)) (on (λ s. s.upp
 
 abbrev pub span_text : Span VersionValue → List ℕ
 span_text s = bounds_text s.lower s.upper
-
--- a bound with a sign `before` its version, or one `after` it
-abbrev pub signed_text : List ℕ → List ℕ → Bound VersionValue → List ℕ
-signed_text before after b = elim b [ Before v ↦ before ++ version_text v | After v ↦ after ++ version_text v | _ ↦ [] ]
 
 -- intervals are copied with memory: two or more, or one with a bound whose copy takes some
 abbrev pub AreTaking : {V : Type 0} → (V → Bool) → List (Span V) → Type 0

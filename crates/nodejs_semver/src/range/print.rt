@@ -1,31 +1,56 @@
 // How ranges print.
 
-ghost use Rattle.std.specs.Prelude.{◌≡◌};
-ghost use Rattle.nodejs_semver.specs.Words.{bound_of, DisplaysStyledOnOk, is_eq, range_text};
-ghost use Rattle.nodejs_semver.specs.Words.{signed_text, Some, span_of, span_text};
+ghost use Rattle.std.specs.Prelude.{◌++◌, ◌≡◌};
+ghost use Rattle.nodejs_semver.specs.Words.{bound_of, DisplaysStyledOnOk, is_eq, lower_text};
+ghost use Rattle.nodejs_semver.specs.Words.{range_text, Some, span_of, span_text};
+ghost use Rattle.nodejs_semver.specs.Words.{upper_text, version_text};
 
 use crate::RangeOf;
 use semver_core::cuts::{Bound, Interval};
 use semver_core::{VersionPoint, Versioned};
 use std::fmt;
 
-// A bound: its version behind one sign or the other, and nothing where there is none.
-fn write_bound<V: Versioned, W: fmt::Write>(
-    bound: &Bound<V>,
-    before: &str,
-    after: &str,
+// A sign and a version.
+fn write_signed<V: Versioned, W: fmt::Write>(
+    sign: &str,
+    version: &V,
     f: &mut fmt::Formatter<W>,
 ) -> fmt::Result
     ensures { DisplaysStyledOnOk W.write_str_gives f.old result
-        (Some (signed_text before.now after.now (bound_of V.value bound.now))) f.new }
+        (Some (sign.now ++ version_text (V.value version.now))) f.new }
 {
-    let (sign, version) = match bound {
-        Bound::Unbounded => return Ok(()),
-        Bound::Before(version) => (before, version),
-        Bound::After(version) => (after, version),
-    };
     f.write_str(sign)?;
     version.print(f)
+}
+
+// A lower bound: `>=v` or `>v`, and nothing where there is none.
+fn write_lower<V: Versioned, W: fmt::Write>(
+    bound: &Bound<V>,
+    f: &mut fmt::Formatter<W>,
+) -> fmt::Result
+    ensures { DisplaysStyledOnOk W.write_str_gives f.old result
+        (Some (lower_text (bound_of V.value bound.now))) f.new }
+{
+    match bound {
+        Bound::Unbounded => Ok(()),
+        Bound::Before(version) => write_signed(">=", version, f),
+        Bound::After(version) => write_signed(">", version, f),
+    }
+}
+
+// An upper bound: `<v` or `<=v`, and nothing where there is none.
+fn write_upper<V: Versioned, W: fmt::Write>(
+    bound: &Bound<V>,
+    f: &mut fmt::Formatter<W>,
+) -> fmt::Result
+    ensures { DisplaysStyledOnOk W.write_str_gives f.old result
+        (Some (upper_text (bound_of V.value bound.now))) f.new }
+{
+    match bound {
+        Bound::Unbounded => Ok(()),
+        Bound::Before(version) => write_signed("<", version, f),
+        Bound::After(version) => write_signed("<=", version, f),
+    }
 }
 
 // Whether the versions are equal. It is not inlined: `write_interval` then takes less.
@@ -47,13 +72,13 @@ fn write_interval<V: VersionPoint, W: fmt::Write>(
     let (lower, upper) = (interval.lower(), interval.upper());
     match (lower, upper) {
         (Bound::Unbounded, Bound::Unbounded) => f.write_str("*"),
-        (Bound::Unbounded, _) => write_bound(upper, "<", "<=", f),
-        (_, Bound::Unbounded) => write_bound(lower, ">=", ">", f),
+        (Bound::Unbounded, _) => write_upper(upper, f),
+        (_, Bound::Unbounded) => write_lower(lower, f),
         (Bound::Before(v), Bound::After(w)) if are_equal(v, w) => v.print(f),
         (_, _) => {
-            write_bound(lower, ">=", ">", f)?;
+            write_lower(lower, f)?;
             f.write_str(" ")?;
-            write_bound(upper, "<", "<=", f)
+            write_upper(upper, f)
         }
     }
 }

@@ -5,9 +5,9 @@ use Rattle.nodejs_semver.proofs.range.print.write_interval.Goals as goal
 
 pub returns-in_ok-write_str-in_default : goal.returns-in_ok-write_str-in_default
 returns-in_ok-write_str-in_default g c flush ok =
-    let lower = c.in_ok-write_bound-in_default.ensures flush refl in
+    let lower = c.in_ok-write_lower-in_default.ensures flush refl in
     let space = c.in_ok-write_str-in_default.ensures.styled lower.flush refl in
-    let upper = c.write_bound-in_default-2.ensures space.flush ok in
+    let upper = c.write_upper-in_default.ensures space.flush ok in
     has_written_styled_of_eq _ _ _ _ _ (elim c.in_default.branch [
       | in_default-via-in-Before-After+else-are_equal w ↦ search rules
       | in_default-via-in-Before+in_default w ↦ search rules
