@@ -1,14 +1,14 @@
 -- What a loop over digits reads, step by step.
-use Rattle.semver_core.proofs.Common.{List, None, Some, add-one, arith, drop, false, get_or, length, ltb, refl, true, ℕ, ◌*◌, ◌+◌}
-use Rattle.semver_core.proofs.Common.{◌-◌, ◌<◌, ◌≡◌, ◌≤◌, drop-cons, nat_tests, drop_all, digit_value, is_ascii_digit, ◌==◌}
-use Rattle.semver_core.proofs.Common.{digits_end, digits_from, placed, if◌then◌else◌, begins, Bool, inl, inr, cases_lt, take_rest}
+use Rattle.semver_core.proofs.Common.{List, None, Some, add-one, arith, drop, false, get_or, length, ltb, refl, true, ℕ, ◌*◌}
+use Rattle.semver_core.proofs.Common.{◌+◌, ◌-◌, ◌<◌, ◌≡◌, ◌≤◌, drop-cons, nat_tests, drop_all, digit_value, is_ascii_digit}
+use Rattle.semver_core.proofs.Common.{◌==◌, digits_end, digits_from, if◌then◌else◌, begins, Bool, inl, inr, cases_lt, take_rest}
 use Rattle.semver_core.proofs.Common.{IsWholeNumber, Option, sym, number_at, IsPieceAt, IfSome, IfNone, is_identifier_char}
-use Rattle.semver_core.proofs.Common.{AlphaNumeric, Numeric, identifier_of, [], add_comm, ap, take, ◌∙◌, ◌∷◌, cases_Bool}
-use Rattle.semver_core.proofs.Common.{length-drop, first_so, second_so, list_all, prefix_len, digits_value, number_of_run}
-use Rattle.semver_core.proofs.Common.{MAX_SAFE_INTEGER, ◌++◌, run_from, add-zero, ◌^◌, prefix_len-le-length, digits_value_after, ltb-true, lt-ltb}
+use Rattle.semver_core.proofs.Common.{AlphaNumeric, Numeric, identifier_of, [], ap, take, ◌∙◌, ◌∷◌, length-drop, list_all}
+use Rattle.semver_core.proofs.Common.{prefix_len, number_of_run, MAX_SAFE_INTEGER, ◌++◌, run_from, add-zero, ◌^◌}
+use Rattle.semver_core.proofs.Common.{prefix_len-le-length, digits_value_after, take-append_seam, ◌&&◌, lt-ltb}
 use Rattle.semver_core.specs.{Internal.CommonReading.{grown, id_by}, Text.Characters.{HasFeed, NoPieceAt}}
-use Rattle.std.proofs.{Common.{ap₂, drop-drop}, lemmas.Option.{same_Some}}
-use Rattle.semver_core.proofs.Text.Runs.{prefix_ends}
+use Rattle.std.proofs.Common.{drop-drop}
+use Rattle.semver_core.proofs.Text.Runs.{all_more, prefix_ends, prefix_whole, take_one}
 use Rattle.{std.proofs.lemmas.Str.digit_value_digit, semver_core.proofs.Text.Pieces.{number_sound, number_complete, digits_grow}}
 
 pub digit_value-is : (c : ℕ) → is_ascii_digit c ≡ true → digit_value c ≡ c - 48
@@ -102,56 +102,25 @@ pub run_found : (n : Option ℕ) (at : ℕ) (t : List ℕ)
     → run_from n at t ≡ (at + prefix_len is_identifier_char t, number_of_run n (take (prefix_len is_identifier_char t) t))
 unfolding run_from number_of_run
 run_found n at [] = rw (add-zero at) refl
-run_found n at (c ∷ rest) = elim (cases_Bool (is_identifier_char c)) [
-  | inr stop ↦ rw (stop, add-zero at) refl
-  | inl more ↦
-      let sum : at + 1 + prefix_len is_identifier_char rest ≡ at + (1 + prefix_len is_identifier_char rest) = omega arith in
-      let next = run_found (grown n c) (at + 1) rest in
-      rw (more, next, sum, add_comm 1 (prefix_len is_identifier_char rest), add-one (prefix_len is_identifier_char rest)) refl
-]
+run_found n at (c ∷ rest) = grind (arith, take_one, run_found (grown n c) (at + 1) rest)
 
-none_stays : (run : List ℕ) → number_of_run None run ≡ None
+run_number : (v : ℕ) (run : List ℕ) → v < 2 ^ 64
+    → number_of_run (Some v) run ≡ (if list_all is_ascii_digit run && ltb (digits_value_after 10 v run) (2 ^ 64)
+    then Some (digits_value_after 10 v run) else None)
 unfolding number_of_run
-none_stays [] = refl
-none_stays (c ∷ run) = none_stays run
-
-of_digits : (v : ℕ) (run : List ℕ) → list_all is_ascii_digit run ≡ true → digits_value_after 10 v run < 2 ^ 64 → number_of_run (Some v) run ≡ Some (digits_value_after 10 v run)
-unfolding number_of_run
-of_digits v [] d small = refl
-of_digits v (c ∷ run) d small =
+run_number v [] small = grind (arith, nat_tests)
+run_number v (c ∷ run) small =
     let grows = digits_grow (v * 10 + digit_value c) run in
-    let fits : ltb (v * 10 + digit_value c) (2 ^ 64) ≡ true = grind (arith, nat_tests) in
-    rw (first_so (is_ascii_digit c) (list_all is_ascii_digit run) d, fits) (of_digits (v * 10 + digit_value c) run (second_so (is_ascii_digit c) (list_all is_ascii_digit run) d) small)
-
-of_long : (v : ℕ) (run : List ℕ) → v < 2 ^ 64 → list_all is_ascii_digit run ≡ true → ltb (digits_value_after 10 v run) (2 ^ 64) ≡ false → number_of_run (Some v) run ≡ None
-unfolding number_of_run
-of_long v [] small d big = absurd (grind (arith, nat_tests))
-of_long v (c ∷ run) small d big =
-    let digit = first_so (is_ascii_digit c) (list_all is_ascii_digit run) d in
-    elim (cases_Bool (ltb (v * 10 + digit_value c) (2 ^ 64))) [
-      | inl fits ↦ rw (digit, fits) (of_long (v * 10 + digit_value c) run (grind (arith, nat_tests)) (second_so (is_ascii_digit c) (list_all is_ascii_digit run) d) big)
-      | inr over ↦ rw (digit, over) (none_stays run)
-    ]
-
-of_other : (n : Option ℕ) (run : List ℕ) → list_all is_ascii_digit run ≡ false → number_of_run n run ≡ None
-unfolding number_of_run
-of_other n [] d = cc d
-of_other None (c ∷ run) d = none_stays run
-of_other (Some v) (c ∷ run) d = elim (cases_Bool (is_ascii_digit c)) [
-  | inr other ↦ rw other (none_stays run)
-  | inl digit ↦ of_other (grown (Some v) c) run (rw digit at d)
-]
+    let none = none_stays run in
+    grind (arith, nat_tests, run_number (v * 10 + digit_value c) run)
+  where
+    none_stays : (run : List ℕ) → number_of_run None run ≡ None
+    none_stays [] = refl
+    none_stays (c ∷ run) = none_stays run
 
 -- the identifier that a run spells
 pub id_spelled : (run : List ℕ) → id_by (number_of_run (Some 0) run) run ≡ identifier_of run
-id_spelled run = elim (cases_Bool (list_all is_ascii_digit run)) [
-  | inr other ↦ rw (of_other (Some 0) run other, other) refl
-  | inl digits ↦
-      elim (cases_Bool (ltb (digits_value 10 run) (2 ^ 64))) [
-        | inl fits ↦ rw (of_digits 0 run digits (ltb-true _ _ fits), digits, fits) refl
-        | inr over ↦ rw (of_long 0 run (omega arith) digits over, digits, over) refl
-      ]
-]
+id_spelled run = grind (arith, nat_tests, run_number 0 run)
 
 pub grown_small : (v b : ℕ) → v < 2 ^ 64 → is_ascii_digit b ≡ true → v * 10 + (b - 48) < 2 ^ 64 → grown (Some v) b ≡ Some (v * 10 + (b - 48))
 grown_small v b s d h =
@@ -181,7 +150,7 @@ scan_fits text start r e le =
 pub scan_stops : (text : List ℕ) (start : ℕ) (r : ℕ × Option ℕ) → r ≡ run_from (Some 0) start (drop start text) → begins is_identifier_char (drop r.0 text) ≡ false
 scan_stops text start r e =
     let n = prefix_len is_identifier_char (drop start text) in
-    rw (ap (λ p. drop p text) (scan_end text start r e).0 ∙ sym (drop-drop n start text)) (prefix_ends (drop start text))
+    rw (ap (λ p. drop p text) (scan_end text start r e).0 ∙ sym (drop-drop n start text)) (prefix_ends is_identifier_char (drop start text))
 
 -- the end of a run, whatever it writes
 pub run_place : (text : List ℕ) (start end : ℕ) → (end, None) ≡ run_from None start (drop start text) → start ≤ length text
@@ -196,29 +165,15 @@ scan_number run v e = sym (id_spelled run) ∙ ap (λ n. id_by n run) (sym e)
 pub scan_text : (run : List ℕ) → None ≡ number_of_run (Some 0) run → identifier_of run ≡ AlphaNumeric run
 scan_text run e = sym (id_spelled run) ∙ ap (λ n. id_by n run) (sym e)
 
--- digits that no character of identifiers follows are the whole run
-run_over : (v at : ℕ) (digits rest : List ℕ) → list_all is_ascii_digit digits ≡ true → digits_value_after 10 v digits < 2 ^ 64
-    → begins is_identifier_char rest ≡ false → run_from (Some v) at (digits ++ rest) ≡ (at + length digits, Some (digits_value_after 10 v digits))
-unfolding run_from
-run_over v at [] [] each small stop = rw (add-zero at) refl
-run_over v at [] (c ∷ rest) each small stop = rw (stop, add-zero at) refl
-run_over v at (c ∷ digits) rest each small stop =
-    let digit = first_so (is_ascii_digit c) (list_all is_ascii_digit digits) each in
-    let grows = digits_grow (v * 10 + digit_value c) digits in
-    let fits : ltb (v * 10 + digit_value c) (2 ^ 64) ≡ true = grind (arith, nat_tests) in
-    let inside : is_identifier_char c ≡ true = rw digit refl in
-    let sum : at + 1 + length digits ≡ at + length (c ∷ digits) = omega arith in
-    rw (inside, digit, fits, ← sum)
-    (run_over (v * 10 + digit_value c) (at + 1) digits rest (second_so (is_ascii_digit c) (list_all is_ascii_digit digits) each) small stop)
-
 pub run_of_number : (text : List ℕ) (at n end : ℕ) → Some (n, end) ≡ number_at MAX_SAFE_INTEGER text at → begins is_identifier_char (drop end text) ≡ false
     → (end, Some n) ≡ run_from (Some 0) at (drop at text)
 run_of_number text at n end e stop =
     let s = number_sound MAX_SAFE_INTEGER text at n end (sym e) in
-    let place : end ≡ at + length s.0 =
-    ap (λ (q : ℕ × ℕ). q.1) (same_Some _ _ (e ∙ (number_complete MAX_SAFE_INTEGER text at n s.0 (drop end text) s.1 s.2).0)) in
-    let run = run_over 0 at s.0 (drop end text) s.2.number.each (omega (arith, s.2.number.value, s.2.number.safe)) stop in
-    ap₂ (λ p v. (p, Some v)) place s.2.number.value ∙ sym run ∙ ap (λ t. run_from (Some 0) at t) (sym s.1)
+    let c = number_complete MAX_SAFE_INTEGER text at n s.0 (drop end text) s.1 s.2 in
+    let chars = all_more is_ascii_digit is_identifier_char s.0 (λ c h. grind (arith, nat_tests)) s.2.number.each in
+    let run = prefix_whole is_identifier_char s.0 (drop end text) chars stop in
+    let taken = take-append_seam s.0 (drop end text) in
+    grind (arith, nat_tests, run_found (Some 0) at (drop at text), run_number 0 s.0)
 
 pub ruleset grown_either = (grown_small, grown_big)
 

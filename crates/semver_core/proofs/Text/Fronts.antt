@@ -1,33 +1,25 @@
 -- The version that a text begins with is that of the text up to the place behind it.
 use Rattle.semver_core.proofs.Common.{qualified, triple_at, begins, Id, IsLongestIdentifiers, goes_on, pieces, IsNumber}
-use Rattle.semver_core.proofs.Common.{IsWholeNumber, begins_pre_release, no_mark, VersionValue, Bool, List, None, Some, []}
-use Rattle.semver_core.proofs.Common.{ap, append-nil, append_assoc, arith, drop, eqb, false, inl, inr, length, refl, subst}
-use Rattle.semver_core.proofs.Common.{sym, take, true, ℕ, ◌++◌, ◌∙◌, ◌∷◌, ◌≡◌, ◌≤◌, nat_tests, cases_Bool, eqb-true}
-use Rattle.semver_core.proofs.Common.{take-append-drop, is_ascii_digit, list_all, list_all-append, small_len, lists_at}
-use Rattle.semver_core.proofs.Common.{IsCommon, IsBuild, IsMark, IsPreRelease, bare, capital_mark, dashed, no_build}
-use Rattle.semver_core.proofs.Common.{no_pre_release, plus, small_mark, NoValue, IsAfterBlank, IsBlank, is_identifier_char}
-use Rattle.semver_core.proofs.Common.{Reads, Option, ◌<◌, ◌||◌, drop-cons, drop_all, ◌==◌, common_of, HasOneReading}
-use Rattle.semver_core.proofs.Common.{mark_len, begins_build, release_value, IfSome, IfNone, get_or, suc}
+use Rattle.semver_core.proofs.Common.{IsWholeNumber, begins_pre_release, no_mark, VersionValue, Bool, List, None, Some, [], ap}
+use Rattle.semver_core.proofs.Common.{append-nil, append_assoc, arith, drop, false, length, refl, subst, sym, take, true, ℕ}
+use Rattle.semver_core.proofs.Common.{◌++◌, ◌∙◌, ◌∷◌, ◌≡◌, ◌≤◌, nat_tests, take-append-drop, is_ascii_digit, list_all}
+use Rattle.semver_core.proofs.Common.{list_all-append, small_len, lists_at, IsCommon, IsBuild, IsMark, IsPreRelease, bare}
+use Rattle.semver_core.proofs.Common.{dashed, no_build, no_pre_release, plus, small_mark, NoValue, IsAfterBlank, IsBlank}
+use Rattle.semver_core.proofs.Common.{is_identifier_char, Reads, Option, ◌<◌, drop-cons, drop_all, ◌==◌, common_of}
+use Rattle.semver_core.proofs.Common.{HasOneReading, mark_len, begins_build, release_value, IfSome, IfNone, get_or}
 use Rattle.semver_core.specs.{Internal.CommonReading.{is_plain, at_end, whole_at}, Text.Common.IsCommonFront}
 use Rattle.{std.proofs.lemmas.List.append_cancel_right, semver_core.proofs.Text.Listed.plain_runs}
-use Rattle.semver_core.proofs.Text.{Pieces.{runs_tail, some_inside}, Runs.all_more, Texts.{divided_at, number_begins, read_at}}
+use Rattle.semver_core.proofs.Text.{Pieces.runs_tail, Runs.all_more, Texts.{divided_at, number_begins, read_at}}
 use Rattle.semver_core.proofs.Text.Texts.{rest_of, bind_some, none_build, loose_none, loose_some, none_pre}
 
 -- ---- The fast reader's answer is the common text's version.
 
 at_end_some : {A : Type 0} (rest : List ℕ) (x y : A) → at_end rest x ≡ Some y → (rest ≡ []) × (x ≡ y)
-at_end_some [] x y e = (refl, some_inside x y e)
-at_end_some (c ∷ rest) x y e = cc
-
-capital : (c : ℕ) → c ∷ [] ≡ 86 ∷ [] → c ≡ 86
-capital c f = cc
+at_end_some rest x y e = grind arith
 
 pub small_is : (text : List ℕ) → IsMark (take (small_len text) text) × (take (small_len text) text ≡ 86 ∷ [] → ⊥)
 small_is [] = (no_mark, λ f. cc f)
-small_is (c ∷ rest) = elim (cases_Bool (eqb c 118)) [
-  | inl small ↦ rw (eqb-true c 118 small) (small_mark, λ f. omega (arith, capital 118 f))
-  | inr other ↦ rw other (no_mark, λ f. cc f)
-]
+small_is (c ∷ rest) = grind (arith, nat_tests, no_mark, small_mark)
 
 pub nothing_blank : IsBlank []
 nothing_blank = record { characters = []; each = refl; spelled = refl }
@@ -43,13 +35,10 @@ common_sound limit text v e =
     rw (← ended.1) (d.reads, λ capital. mark.1 (sym d.mark_is ∙ capital), d.blank_is, d.rest_is ∙ ended.0)
 
 no_small : (D : List ℕ) → begins is_ascii_digit D ≡ true → small_len D ≡ 0
-no_small [] h = cc
-no_small (c ∷ D) h = let other : eqb c 118 ≡ false = grind (arith, nat_tests) in rw other refl
+no_small D h = grind (arith, nat_tests)
 
 pub past_small : (text mark D : List ℕ) → IsMark mark → (mark ≡ 86 ∷ [] → ⊥) → text ≡ mark ++ D → begins is_ascii_digit D ≡ true → drop (small_len text) text ≡ D
-past_small text mark D no_mark s e h = rw (e, no_small D h) refl
-past_small text mark D small_mark s e h = rw e refl
-past_small text mark D capital_mark s e h = absurd (s refl)
+past_small text mark D is s e h = grind (arith, no_small)
 
 -- the version that stands at the front, behind `v` or nothing, is found there
 front_at : (limit : ℕ) (text : List ℕ) (v : VersionValue) (r : Reads limit text v) → (r.mark ≡ 86 ∷ [] → ⊥) → r.blank ≡ []
@@ -66,8 +55,7 @@ common_complete limit text v c = let found = front_at limit text v c.0 c.1 c.2 i
 
 -- the clauses of a reader whose answer is `common_of`
 pub common_some : (limit : ℕ) (text : List ℕ) (found : Option VersionValue) → found ≡ common_of limit text → IfSome found (λ v. IsCommon limit text v)
-common_some limit text None e = tt
-common_some limit text (Some v) e = common_sound limit text v (sym e)
+common_some limit text found e = grind (arith, common_sound)
 
 pub common_none : (limit : ℕ) (text : List ℕ) (found : Option VersionValue) → found ≡ common_of limit text
     → IfNone found (NoValue (IsCommon limit text))
@@ -101,12 +89,12 @@ lists_left text major minor patch at end pre build e lt =
 -- numbers at the front, with the lists behind them, are a version of the text
 pub front_read : (limit : ℕ) (text : List ℕ) (t : ℕ × ℕ × ℕ × ℕ) → Some t ≡ triple_at limit text (small_len text) → Reads limit text (qualified text t)
 front_read limit text t e =
-    (divided_at limit text (take (small_len text) text) [] (small_len text) t (sym (take-append-drop (small_len text) text)) (small_is text).0 nothing_blank (sym e)).reads
+    let k = small_len text in
+    (divided_at limit text (take k text) [] k t (sym (take-append-drop k text)) (small_is text).0 nothing_blank (sym e)).reads
 
 pub loose_read : (limit : ℕ) (text : List ℕ) (start : ℕ) (o : Option (ℕ × ℕ × ℕ × ℕ)) → IsAfterBlank text (mark_len text) start
     → o ≡ triple_at limit text start → IfSome o (λ t. Reads limit text (qualified text t))
-loose_read limit text start None a e = tt
-loose_read limit text start (Some t) a e = loose_some limit text start (qualified text t) a (rw (← e) refl)
+loose_read limit text start o a e = grind (arith, loose_some)
 
 pub loose_not : (limit : ℕ) (text : List ℕ) (start : ℕ) (o : Option (ℕ × ℕ × ℕ × ℕ)) → IsAfterBlank text (mark_len text) start
     → o ≡ triple_at limit text start → IfNone o (NoValue (Reads limit text))
@@ -117,24 +105,16 @@ loose_not limit text start (Some t) a e = tt
 pub release_read : (limit : ℕ) (text : List ℕ) (major minor patch at : ℕ) (v : VersionValue)
     → Reads limit text (qualified text (major, minor, patch, at)) → length text ≤ at → v ≡ release_value major minor patch
     → Reads limit text v
-release_read limit text major minor patch at v r le e =
-    let none = drop_all at text le in
-    let is : qualified text (major, minor, patch, at) ≡ release_value major minor patch =
-    rw (none_pre text at [] none refl, none_build text at [] none refl) refl in
-    rw (e, ← is) r
+release_read limit text major minor patch at v r le e = grind (arith, drop_all, none_pre, none_build)
 
 -- neither a pre-release nor a build begins with such a byte
-other_byte : (c : ℕ) (rest : List ℕ) → (is_identifier_char c || c == 43) ≡ false → (begins_pre_release (c ∷ rest) ≡ false) × (begins_build (c ∷ rest) ≡ false)
-other_byte c rest h = grind (arith, nat_tests)
-
 nothing_at : (text : List ℕ) (at : ℕ) (r : List ℕ) → drop at text ≡ r → begins_pre_release r ≡ false → begins_build r ≡ false → lists_at text at ≡ ([], [], at)
 nothing_at text at r e pre meta = rw (none_pre text at r e pre, none_build text at r e meta) refl
 
 pub none_begins : (text : List ℕ) (at : ℕ) → at < length text → is_identifier_char (get_or text at 0) ≡ false → (get_or text at 0 == 43) ≡ false
     → lists_at text at ≡ ([], [], at)
 none_begins text at inside h k =
-    let other = other_byte (get_or text at 0) (drop (suc at) text) (rw (h, k) refl) in
-    nothing_at text at _ (drop-cons text at 0 inside) other.0 other.1
+    nothing_at text at _ (drop-cons text at 0 inside) (grind (arith, nat_tests)) (grind arith)
 
 pub none_past : (text : List ℕ) (at : ℕ) → length text ≤ at → lists_at text at ≡ ([], [], at)
 none_past text at past = nothing_at text at [] (drop_all at text past) refl refl
@@ -146,7 +126,7 @@ pub ruleset read_common = (common_some, common_none)
 -- ---- For proofs. What a larger limit on numbers leaves as it is.
 
 number_kept : (small large : ℕ) (digits : List ℕ) (n : ℕ) → small ≤ large → IsNumber small digits n → IsNumber large digits n
-number_kept small large digits n le h = record { some = h.some; each = h.each; value = h.value; safe = omega (arith, le, h.safe) }
+number_kept small large digits n le h = grind arith
 
 pub keeps_reading : (text : List ℕ) (small large : ℕ) (v : VersionValue) → small ≤ large → Reads small text v → Reads large text v
 keeps_reading text small large v le h = record {
@@ -174,18 +154,13 @@ keeps_version text one small large v w le h k = one large w v k (keeps_reading t
 -- ---- a text without what follows it
 
 begins_less : (test : ℕ → Bool) (a r : List ℕ) → begins test (a ++ r) ≡ false → begins test a ≡ false
-begins_less test [] r h = refl
-begins_less test (c ∷ a) r h = h
+begins_less test a r h = grind arith
 
 goes_less : (a r : List ℕ) → goes_on (a ++ r) ≡ false → goes_on a ≡ false
-goes_less [] r h = refl
-goes_less (c ∷ []) r h = grind arith
-goes_less (c ∷ d ∷ a) r h = h
+goes_less a r h = grind arith
 
 pre_less : (a r : List ℕ) → begins_pre_release (a ++ r) ≡ false → begins_pre_release a ≡ false
-pre_less [] r h = refl
-pre_less (c ∷ []) r h = grind (arith, nat_tests)
-pre_less (c ∷ d ∷ a) r h = h
+pre_less a r h = grind (arith, nat_tests)
 
 longest_less : (text a r : List ℕ) (ids : List Id) → IsLongestIdentifiers text (a ++ r) ids → IsLongestIdentifiers text a ids
 longest_less text a r ids l = record { identifiers = l.identifiers; ended = goes_less a r l.ended }
@@ -196,8 +171,7 @@ is_pre_less text a r ids (bare s rest list long plain) = bare s a ids (longest_l
 is_pre_less text a r ids (no_pre_release rest none) = no_pre_release a (pre_less a r none)
 
 is_build_less : (text r : List ℕ) (ids : List Id) → IsBuild text r ids → IsBuild text [] ids
-is_build_less text r ids (plus s rest list long) = plus s [] ids (record { identifiers = long.identifiers; ended = refl })
-is_build_less text r ids (no_build rest none) = no_build [] refl
+is_build_less text r ids is = grind (arith, plus, no_build)
 
 whole_less : (limit : ℕ) (digits a r : List ℕ) (n : ℕ) → IsWholeNumber limit digits (a ++ r) n → IsWholeNumber limit digits a n
 whole_less limit digits a r n w = record { number = w.number; ended = begins_less is_ascii_digit a r w.ended }
@@ -260,38 +234,28 @@ front_not limit text e v end c = cc (e, (front_at limit text v c.0 c.1 c.2).1)
 
 -- ---- the bytes of a common text
 
-both_all : (p : ℕ → Bool) (a b : List ℕ) → list_all p a ≡ true → list_all p b ≡ true → list_all p (a ++ b) ≡ true
-both_all p a b h k = rw (list_all-append, h, k) refl
-
 plain_list : (text rest : List ℕ) (ids : List Id) → IsLongestIdentifiers text rest ids → list_all is_plain text ≡ true
 plain_list text rest ids l = plain_runs text (runs_tail (pieces text) l.identifiers.runs)
 
 plain_pre : (text rest : List ℕ) (ids : List Id) → IsPreRelease text rest ids → list_all is_plain text ≡ true
-plain_pre text rest ids (dashed s r list long) = rw (plain_list s rest ids long) refl
-plain_pre text rest ids (bare s r list long plain) = plain_list s rest ids long
-plain_pre text rest ids (no_pre_release r none) = refl
+plain_pre text rest ids is = grind (arith, plain_list)
 
 plain_build : (text rest : List ℕ) (ids : List Id) → IsBuild text rest ids → list_all is_plain text ≡ true
-plain_build text rest ids (plus s r list long) = rw (plain_list s rest ids long) refl
-plain_build text rest ids (no_build r none) = refl
+plain_build text rest ids is = grind (arith, plain_list)
 
 plain_mark : (mark : List ℕ) → IsMark mark → list_all is_plain mark ≡ true
-plain_mark mark no_mark = refl
-plain_mark mark small_mark = refl
-plain_mark mark capital_mark = refl
-
-plain_number : (limit : ℕ) (digits : List ℕ) (n : ℕ) → IsNumber limit digits n → list_all is_plain digits ≡ true
-plain_number limit digits n h = all_more is_ascii_digit is_plain digits (λ c k. grind (arith, nat_tests)) h.each
+plain_mark mark is = grind arith
 
 -- a common text is letters, digits, `-`, `.` and `+` alone
 pub common_plain : (limit : ℕ) (text : List ℕ) (v : VersionValue) → IsCommon limit text v → list_all is_plain text ≡ true
 common_plain limit text v c =
     let r = c.0 in
-    let p = is_plain in
-    let build = both_all p r.build r.rest (plain_build r.build r.rest v.build r.build_is) (rw c.3 refl) in
-    let pre = both_all p r.pre_release _ (plain_pre r.pre_release _ v.pre_release r.pre_release_is) build in
-    let patch = both_all p r.patch _ (plain_number limit r.patch v.patch r.patch_is.number) pre in
-    let minor = both_all p r.minor (46 ∷ _) (plain_number limit r.minor v.minor r.minor_is) patch in
-    let major = both_all p r.major (46 ∷ _) (plain_number limit r.major v.major r.major_is) minor in
-    let blank : list_all p r.blank ≡ true = rw c.2 refl in
-    rw r.divided (both_all p r.mark _ (plain_mark r.mark r.mark_is) (both_all p r.blank _ blank major))
+    let digits : (ds : List ℕ) → list_all is_ascii_digit ds ≡ true → list_all is_plain ds ≡ true =
+    λ ds. all_more is_ascii_digit is_plain ds (λ c k. grind (arith, nat_tests)) in
+    let mark = plain_mark r.mark r.mark_is in
+    let major = digits r.major r.major_is.each in
+    let minor = digits r.minor r.minor_is.each in
+    let patch = digits r.patch r.patch_is.number.each in
+    let pre = plain_pre r.pre_release _ v.pre_release r.pre_release_is in
+    let build = plain_build r.build r.rest v.build r.build_is in
+    rw (r.divided, c.2, c.3) (simp (list_all-append, mark, major, minor, patch, pre, build))

@@ -1,11 +1,10 @@
 -- Runs of identifier characters, and lists of them.
 use Rattle.semver_core.proofs.Common.{Bool, and_parts, list_at, list_of, begins, is_identifier_char, Id, Numeric, goes_on}
 use Rattle.semver_core.proofs.Common.{identifier_of, List, Some, [], add-one, add_comm, ap, append_assoc, arith, drop, eqb}
-use Rattle.semver_core.proofs.Common.{false, get_or, inl, inr, length, ltb, refl, rules, sym, take, true, zero-add, ℕ, ◌++◌}
-use Rattle.semver_core.proofs.Common.{◌+◌, ◌-◌, ◌<◌, ◌∙◌, ◌∷◌, ◌≡◌, ◌≤◌, drop-cons, nat_tests, cases_Bool, eqb-true}
-use Rattle.semver_core.proofs.Common.{drop-drop, length-drop, is_ascii_digit, All, list_all, prefix_len, IsCharBoundary}
-use Rattle.semver_core.proofs.Common.{IsUtf8, ◌==◌, digits_value, list_len, map, suc, ◌^◌, take-add, slice_split_at}
-use Rattle.semver_core.proofs.Common.{slice_split_none, prefix_len-le-length, IsCharBoundary-after_ascii}
+use Rattle.semver_core.proofs.Common.{false, get_or, length, ltb, refl, rules, sym, take, true, ℕ, ◌++◌, ◌+◌, ◌-◌, ◌<◌, ◌∙◌}
+use Rattle.semver_core.proofs.Common.{◌∷◌, ◌≡◌, ◌≤◌, nat_tests, drop-drop, length-drop, is_ascii_digit, All, list_all}
+use Rattle.semver_core.proofs.Common.{prefix_len, IsCharBoundary, IsUtf8, ◌==◌, digits_value, list_len, map, ◌^◌, take-add}
+use Rattle.semver_core.proofs.Common.{slice_split_at, slice_split_none, prefix_len-le-length, IsCharBoundary-after_ascii}
 use Rattle.std.proofs.lemmas.{List.{get_or-take, length-take, get_or-drop}, List.Sums.prefix_len_passes, Str.Parse.IsDigitsTest}
 use Rattle.std.proofs.lemmas.Str.Parse.{IsNumeralModel, numerals_by_value}
 
@@ -27,17 +26,32 @@ of_digits run d small =
     let fits : ltb (digits_value 10 run) (2 ^ 64) ≡ true = grind (arith, nat_tests) in
     rw (d, fits) refl
 
-drop_one : (rest : List ℕ) (c n : ℕ) → drop (1 + n) (c ∷ rest) ≡ drop n rest
-drop_one rest c n = rw (add_comm 1 n, add-one n) refl
+-- one more element at the front
+pub take_one : (n c : ℕ) (rest : List ℕ) → take (1 + n) (c ∷ rest) ≡ c ∷ take n rest
+take_one n c rest = rw (add_comm 1 n, add-one n) refl
+
+pub drop_one : (n c : ℕ) (rest : List ℕ) → drop (1 + n) (c ∷ rest) ≡ drop n rest
+drop_one n c rest = rw (add_comm 1 n, add-one n) refl
+
+-- the run at the front: each passes, what follows does not, and that fixes it
+pub prefix_each : (p : ℕ → Bool) (t : List ℕ) → list_all p (take (prefix_len p t) t) ≡ true
+prefix_each p [] = refl
+prefix_each p (c ∷ rest) = grind (arith, take_one, prefix_each p rest)
+
+pub prefix_ends : (p : ℕ → Bool) (t : List ℕ) → begins p (drop (prefix_len p t) t) ≡ false
+prefix_ends p [] = refl
+prefix_ends p (c ∷ rest) = grind (arith, drop_one, prefix_ends p rest)
+
+pub prefix_whole : (p : ℕ → Bool) (run more : List ℕ) → list_all p run ≡ true → begins p more ≡ false → prefix_len p (run ++ more) ≡ length run
+prefix_whole p [] [] h k = refl
+prefix_whole p [] (c ∷ more) h k = grind arith
+prefix_whole p (c ∷ run) more h k = grind (arith, prefix_whole p run more)
 
 -- the list goes over the run at its front, and then as the rest does
 list_len_run : (t : List ℕ) → list_len t ≡ prefix_len is_identifier_char t + list_len (drop (prefix_len is_identifier_char t) t)
 unfolding list_len
 list_len_run [] = refl
-list_len_run (c ∷ rest) = elim (cases_Bool (is_identifier_char c)) [
-  | inl passes ↦ let next = list_len_run rest in rw (passes, drop_one rest c (prefix_len is_identifier_char rest)) (omega (arith, next))
-  | inr fails ↦ let none : prefix_len is_identifier_char (c ∷ rest) ≡ 0 = rw fails refl in rw none (sym (zero-add (list_len (c ∷ rest))))
-]
+list_len_run (c ∷ rest) = grind (arith, drop_one, list_len_run rest)
 
 pub list_len_stop : (t : List ℕ) → goes_on t ≡ false → list_len t ≡ 0
 unfolding list_len
@@ -47,33 +61,18 @@ list_len_stop (c ∷ rest) h = rw h refl
 -- what goes on after a run goes on with a dot
 dot_after : (t : List ℕ) → begins is_identifier_char t ≡ false → goes_on t ≡ true → (rest : List ℕ) × (t ≡ 46 ∷ rest) × (begins is_identifier_char rest ≡ true)
 dot_after [] n h = cc
-dot_after (c ∷ rest) n h = elim (cases_Bool (c == 46)) [
-  | inl dot ↦ let at : c ≡ 46 = eqb-true c 46 dot in (rest, rw at refl, rw (n, dot) at h)
-  | inr other ↦ cc (rw (n, other) at h)
-]
+dot_after (c ∷ rest) n h = (rest, grind (arith, nat_tests), grind (arith, nat_tests))
 
 list_len_dot : (rest : List ℕ) → begins is_identifier_char rest ≡ true → list_len (46 ∷ rest) ≡ 1 + list_len rest
 unfolding list_len
 list_len_dot rest h = rw h refl
 
 pub not_dot : (c : ℕ) → is_identifier_char c ≡ true → eqb c 46 ≡ false
-not_dot c h = elim (cases_Bool (eqb c 46)) [
-  | inl dot ↦ cc (rw (eqb-true c 46 dot) at h)
-  | inr other ↦ other
-]
+not_dot c h = grind (arith, nat_tests)
 
 -- no run holds a dot
 run_no_dot : (t : List ℕ) → All (λ c. eqb c 46 ≡ false) (take (prefix_len is_identifier_char t) t)
-run_no_dot t k d lt =
-    let inside : k < prefix_len is_identifier_char t = omega (arith, length-take (prefix_len is_identifier_char t) t) in
-    rw (get_or-take (prefix_len is_identifier_char t) t k d inside) (not_dot _ (prefix_len_passes is_identifier_char t k d inside))
-
-pub prefix_ends : (t : List ℕ) → begins is_identifier_char (drop (prefix_len is_identifier_char t) t) ≡ false
-prefix_ends [] = refl
-prefix_ends (c ∷ rest) = elim (cases_Bool (is_identifier_char c)) [
-  | inl passes ↦ rw (passes, drop_one rest c (prefix_len is_identifier_char rest)) (prefix_ends rest)
-  | inr fails ↦ rw fails fails
-]
+run_no_dot t k d lt = grind (arith, get_or-take, length-take, not_dot, prefix_len_passes)
 
 -- the list is one run
 pub list_stop : (t : List ℕ) → goes_on (drop (prefix_len is_identifier_char t) t) ≡ false
@@ -83,10 +82,7 @@ list_stop t h =
     (rw len (ap (map identifier_of) (slice_split_none (λ c. c == 46) (take (prefix_len is_identifier_char t) t) (run_no_dot t))), len)
 
 pub drop_next : (n : ℕ) (t rest : List ℕ) (c : ℕ) → drop n t ≡ c ∷ rest → drop (n + 1) t ≡ rest
-drop_next n t rest c e =
-    let inside : n < length t = omega (arith, ap length e, length-drop n t) in
-    let parts : get_or t n 0 ∷ drop (suc n) t ≡ c ∷ rest = sym (drop-cons t n 0 inside) ∙ e in
-    rw (add-one n) (cc)
+drop_next n t rest c e = rw (← drop-drop 1 n t, e) refl
 
 list_next_at : (t rest : List ℕ) (n : ℕ) → prefix_len is_identifier_char t ≡ n → drop n t ≡ 46 ∷ rest → begins is_identifier_char rest ≡ true
     → (list_of t ≡ identifier_of (take n t) ∷ list_of rest) × (list_len t ≡ n + 1 + list_len rest)
@@ -104,14 +100,13 @@ pub list_next : (t : List ℕ) → goes_on (drop (prefix_len is_identifier_char 
     × (begins is_identifier_char (drop (prefix_len is_identifier_char t + 1) t) ≡ true)
 list_next t h =
     let n = prefix_len is_identifier_char t in
-    let dot = dot_after (drop n t) (prefix_ends t) h in
+    let dot = dot_after (drop n t) (prefix_ends is_identifier_char t) h in
     let next : drop (n + 1) t ≡ dot.0 = drop_next n t dot.0 46 dot.1 in
     let facts = list_next_at t dot.0 n refl dot.1 dot.2 in
     (rw next facts.0, rw next facts.1, rw next dot.2)
 
 prefix_some : (t : List ℕ) → begins is_identifier_char t ≡ true → 0 < prefix_len is_identifier_char t
-prefix_some [] h = cc
-prefix_some (c ∷ rest) h = rw h (omega arith)
+prefix_some t h = grind arith
 
 pub ascii : (c : ℕ) → is_identifier_char c ≡ true → c < 128
 ascii c h = grind (arith, nat_tests)

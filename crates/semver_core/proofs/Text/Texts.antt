@@ -1,61 +1,48 @@
 -- A version is read exactly where the grammar has it.
-use Rattle.semver_core.proofs.Common.{NoValue, list_at, list_of, qualified, triple_at, BeginsBlank, IsAfterBlank, IsBlank, begins}
-use Rattle.semver_core.proofs.Common.{is_identifier_char, is_whitespace, Id, IsLongestIdentifiers, IsNumber, IsWholeNumber, Reads}
-use Rattle.semver_core.proofs.Common.{begins_pre_release, no_mark, VersionValue, List, None, Option, Some, [], ap, append_assoc}
-use Rattle.semver_core.proofs.Common.{arith, drop, eqb, false, inl, inr, length, refl, subst, sym, take, true, ℕ, ◌++◌, ◌+◌, ◌<◌}
-use Rattle.semver_core.proofs.Common.{◌||◌, ◌∙◌, ◌∷◌, ◌≡◌, nat_tests, cases_Bool, eqb-true, take-append-drop, is_ascii_digit}
-use Rattle.semver_core.proofs.Common.{encode_utf8, first_so, second_so, list_all, IsCharBoundary, IsUtf8, encode_utf8_all, ◌==◌}
-use Rattle.semver_core.proofs.Common.{HasOneReading, build_at, list_len, mark_len, number_at, or_nothing, pre_release_at}
-use Rattle.semver_core.proofs.Common.{IsPieceAt, IsBuild, IsMark, IsPreRelease, bare, begins_build, capital_mark, dashed}
-use Rattle.semver_core.proofs.Common.{no_build, no_pre_release, plus, small_mark, add-zero, slice_range, drop_split}
-use Rattle.semver_core.proofs.Common.{IsCharBoundary-after_ascii, IsCharBoundary-start, encode_same, take_rest, ◌-◌}
+use Rattle.semver_core.proofs.Common.{NoValue, list_at, list_of, qualified, triple_at, BeginsBlank, IsAfterBlank, IsBlank}
+use Rattle.semver_core.proofs.Common.{begins, is_identifier_char, is_whitespace, Id, IsLongestIdentifiers, IsNumber}
+use Rattle.semver_core.proofs.Common.{IsWholeNumber, Reads, begins_pre_release, no_mark, VersionValue, List, None, Option, Some}
+use Rattle.semver_core.proofs.Common.{[], ap, append_assoc, arith, drop, eqb, false, inl, inr, length, refl, subst, sym, take}
+use Rattle.semver_core.proofs.Common.{true, ℕ, ◌++◌, ◌+◌, ◌<◌, ◌||◌, ◌∙◌, ◌∷◌, ◌≡◌, nat_tests, cases_Bool, take-append-drop}
+use Rattle.semver_core.proofs.Common.{is_ascii_digit, encode_utf8, first_so, second_so, list_all, IsCharBoundary, IsUtf8}
+use Rattle.semver_core.proofs.Common.{encode_utf8_all, ◌==◌, HasOneReading, build_at, list_len, mark_len, number_at, or_nothing}
+use Rattle.semver_core.proofs.Common.{pre_release_at, IsPieceAt, IsBuild, IsMark, IsPreRelease, bare, begins_build}
+use Rattle.semver_core.proofs.Common.{capital_mark, dashed, no_build, no_pre_release, plus, small_mark, add-zero, slice_range}
+use Rattle.semver_core.proofs.Common.{drop_split, IsCharBoundary-after_ascii, IsCharBoundary-start, encode_same, take_rest, ◌-◌}
+use Rattle.semver_core.proofs.Common.{drop-drop}
 use Rattle.{semver_core.specs.Internal.Reading.{◌>>?◌, part_at, past, version_at}, std.proofs.lemmas.Str.char_from_byte}
 use Rattle.semver_core.specs.Text.Numbers.{IsTriple}
 use Rattle.semver_core.proofs.Text.Pieces.{some_inside, rest_at, number_sound, number_complete, list_sound, list_complete}
 use Rattle.semver_core.proofs.Text.{Pieces.{list_none, runs_begin}, Runs.drop_next}
-use borrow.Author.Tests.{eq-eqb}
 
 pub bind_some : {A B : Type 0} (o : Option A) (f : A → Option B) (y : B) → (o >>? f) ≡ Some y → (x : A) × (o ≡ Some x) × (f x ≡ Some y)
 bind_some None f y e = cc
 bind_some (Some x) f y e = (x, refl, e)
 
-past_front : (c : ℕ) (t : List ℕ) → begins (λ b. b == c) t ≡ true → (rest : List ℕ) × (t ≡ c ∷ rest)
-past_front c [] h = cc
-past_front c (b ∷ rest) h = (rest, ap (λ x. x ∷ rest) (eqb-true b c h))
-
 -- the text behind a character that stands at a place
 marked : (c : ℕ) (text : List ℕ) (at : ℕ) → begins (λ b. b == c) (drop at text) ≡ true → drop at text ≡ c ∷ drop (at + 1) text
-marked c text at h =
-    let front = past_front c (drop at text) h in
-    front.1 ∙ ap (λ l. c ∷ l) (sym (drop_next at text front.0 c front.1))
+marked c text at h = rw (← drop-drop 1 at text) (grind (arith, nat_tests))
 
 past_sound : (c : ℕ) (text : List ℕ) (at next : ℕ) → past c text at ≡ Some next → drop at text ≡ c ∷ drop next text
-past_sound c text at next e = elim (cases_Bool (begins (λ b. b == c) (drop at text))) [
-  | inr none ↦ cc (rw none at e)
-  | inl here ↦ rw (← some_inside (at + 1) next (rw here at e)) (marked c text at here)
-]
+past_sound c text at next e = grind (arith, marked)
 
 past_complete : (c : ℕ) (text : List ℕ) (at : ℕ) (rest : List ℕ) → drop at text ≡ c ∷ rest → (past c text at ≡ Some (at + 1)) × (drop (at + 1) text ≡ rest)
-past_complete c text at rest e =
-    let same : eqb c c ≡ true = eq-eqb c c refl in
-    (rw (e, same) refl, drop_next at text rest c e)
+past_complete c text at rest e = grind (arith, nat_tests, drop_next)
 
 -- a number and the dot behind it
 part_sound : (limit : ℕ) (text : List ℕ) (at : ℕ) (q : ℕ × ℕ) → part_at limit text at ≡ Some q
     → (digits : List ℕ) × (drop at text ≡ digits ++ 46 ∷ drop q.1 text) × IsNumber limit digits q.0
 part_sound limit text at q e =
     let found = bind_some (number_at limit text at) _ q e in
-    let dot = bind_some (past 46 text found.0.1) _ q found.2 in
     let s = number_sound limit text at found.0.0 found.0.1 found.1 in
-    rw (← some_inside _ q dot.2) (s.0, s.1 ∙ ap (λ t. s.0 ++ t) (past_sound 46 text found.0.1 dot.0 dot.1), s.2.number)
+    (s.0, grind (arith, past_sound), grind arith)
 
 part_complete : (limit : ℕ) (text : List ℕ) (at n : ℕ) (digits rest : List ℕ) → drop at text ≡ digits ++ 46 ∷ rest
     → IsNumber limit digits n
     → (part_at limit text at ≡ Some (n, at + length digits + 1)) × (drop (at + length digits + 1) text ≡ rest)
 part_complete limit text at n digits rest e is =
     let a = number_complete limit text at n digits (46 ∷ rest) e (record { number = is; ended = refl }) in
-    let dot = past_complete 46 text (at + length digits) rest a.1 in
-    (rw (a.0, dot.0) refl, dot.1)
+    grind (arith, past_complete 46 text (at + length digits) rest a.1)
 
 pub triple_sound : (limit : ℕ) (text : List ℕ) (at : ℕ) (t : ℕ × ℕ × ℕ × ℕ) → triple_at limit text at ≡ Some t
     → IsTriple limit (drop at text) t.0 t.1 t.2 (drop t.3 text)
@@ -96,12 +83,10 @@ triple_none limit text none M m p rest is =
     cc (none, found.1)
 
 no_front : (c : ℕ) (s r : List ℕ) → begins (λ b. b == c) (s ++ r) ≡ false → begins (λ b. b == c) s ≡ false
-no_front c [] r h = refl
-no_front c (b ∷ s) r h = h
+no_front c s r h = grind arith
 
 no_pre : (t : List ℕ) → begins (λ b. b == 45) t ≡ false → begins is_identifier_char t ≡ false → begins_pre_release t ≡ false
-no_pre [] h k = refl
-no_pre (c ∷ rest) h k = rw h (rw h at k)
+no_pre t h k = grind arith
 
 -- a list at a place, or none: what is said of either holds of what is found
 list_or_none : (text : List ℕ) (at start : ℕ) (lead : List ℕ) (Is : List ℕ → List ℕ → List Id → Type 0)
@@ -131,27 +116,19 @@ pre_sound text at = elim (cases_Bool (begins (λ b. b == 45) (drop at text))) [
 ]
 
 no_plus : (t : List ℕ) → begins (λ b. b == 43) t ≡ false → begins_build t ≡ false
-no_plus [] h = refl
-no_plus (c ∷ rest) h = rw h refl
+no_plus t h = grind arith
 
 -- nothing stands there
 pub none_pre : (text : List ℕ) (at : ℕ) (r : List ℕ) → drop at text ≡ r → begins_pre_release r ≡ false → pre_release_at text at ≡ ([], at)
-none_pre text at [] e none = rw (e, list_none text at (rw e refl)) refl
-none_pre text at (c ∷ r) e none = elim (cases_Bool (eqb c 45)) [
-  | inl dash ↦ rw (e, dash, list_none text (at + 1) (rw (drop_next at text r c e) (rw dash at none))) refl
-  | inr plain ↦ rw (e, plain, list_none text at (rw (e, plain) (rw plain at none))) refl
-]
+none_pre text at [] e none = grind (arith, list_none)
+none_pre text at (c ∷ r) e none = grind (arith, drop_next at text r c e)
 
 pub none_build : (text : List ℕ) (at : ℕ) (r : List ℕ) → drop at text ≡ r → begins_build r ≡ false → build_at text at ≡ ([], at)
 none_build text at [] e none = rw e refl
-none_build text at (c ∷ r) e none = elim (cases_Bool (eqb c 43)) [
-  | inl mark ↦ rw (e, mark, list_none text (at + 1) (rw (drop_next at text r c e) (rw mark at none))) refl
-  | inr plain ↦ rw (e, plain) refl
-]
+none_build text at (c ∷ r) e none = grind (arith, drop_next at text r c e)
 
 no_dash : (s r : List ℕ) → begins is_identifier_char (s ++ []) ≡ true → begins (λ b. b == 45) s ≡ false → begins (λ b. b == 45) (s ++ r) ≡ false
-no_dash [] r h k = cc
-no_dash (c ∷ s) r h k = k
+no_dash s r h k = grind arith
 
 build_sound : (text : List ℕ) (at : ℕ)
     → IsPieceAt (λ piece rest. IsBuild piece rest (build_at text at).0) text at (build_at text at).1
@@ -247,80 +224,54 @@ read_at limit text at v r e =
 
 -- ---- the mark and the whitespace
 
-plain_digit : (c : ℕ) → is_ascii_digit c ≡ true → (c < 128) × (is_whitespace c ≡ true → ⊥) × ((eqb c 118 || eqb c 86) ≡ true → ⊥)
-plain_digit c h = (grind (arith, nat_tests), λ white. grind (arith, nat_tests), λ mark. grind (arith, nat_tests))
+-- the first byte of whitespace is neither a digit nor a mark
+blank_byte : (t : List ℕ) → BeginsBlank t → begins (λ b. is_ascii_digit b || b == 118 || b == 86) t ≡ false
+blank_byte [] b = refl
+blank_byte (c ∷ rest) b = grind (arith, nat_tests, char_from_byte (c ∷ rest) b.rest b.character b.spelled)
 
 pub small_digit : (t : List ℕ) → begins is_ascii_digit t ≡ true → BeginsBlank t → ⊥
-small_digit [] h b = cc
-small_digit (c ∷ rest) h b =
-    let plain = plain_digit c h in
-    let same : b.character ≡ c = char_from_byte (c ∷ rest) b.rest b.character b.spelled plain.0 (omega arith) in
-    plain.1 (ap is_whitespace (sym same) ∙ b.passes)
+small_digit t h b = grind (arith, blank_byte t b)
+
+begins_blank : (c : ℕ) (cs D : List ℕ) → list_all is_whitespace (c ∷ cs) ≡ true → BeginsBlank (encode_utf8_all (c ∷ cs) ++ D)
+begins_blank c cs D h = record {
+  character = c;
+  rest = encode_utf8_all cs ++ D;
+  passes = first_so (is_whitespace c) (list_all is_whitespace cs) h;
+  spelled = append_assoc (encode_utf8 c) (encode_utf8_all cs) D;
+}
 
 one_blank : (cs ds D E : List ℕ) → list_all is_whitespace cs ≡ true → list_all is_whitespace ds ≡ true → (BeginsBlank D → ⊥) → (BeginsBlank E → ⊥)
     → encode_utf8_all cs ++ D ≡ encode_utf8_all ds ++ E → D ≡ E
 one_blank [] [] D E a b no_d no_e e = e
-one_blank [] (d ∷ ds) D E a b no_d no_e e =
-    absurd (no_d (record { character = d; rest = encode_utf8_all ds ++ E; passes = first_so (is_whitespace d) (list_all is_whitespace ds) b; spelled = e ∙ append_assoc (encode_utf8 d) (encode_utf8_all ds) E }))
-one_blank (c ∷ cs) [] D E a b no_d no_e e =
-    absurd (no_e (record { character = c; rest = encode_utf8_all cs ++ D; passes = first_so (is_whitespace c) (list_all is_whitespace cs) a; spelled = sym e ∙ append_assoc (encode_utf8 c) (encode_utf8_all cs) D }))
+one_blank [] (d ∷ ds) D E a b no_d no_e e = absurd (no_d (rw e (begins_blank d ds E b)))
+one_blank (c ∷ cs) [] D E a b no_d no_e e = absurd (no_e (rw (← e) (begins_blank c cs D a)))
 one_blank (c ∷ cs) (d ∷ ds) D E a b no_d no_e e =
-    let same = encode_same c d (encode_utf8_all cs ++ D) (encode_utf8_all ds ++ E)
-    (sym (append_assoc (encode_utf8 c) (encode_utf8_all cs) D) ∙ e ∙ append_assoc (encode_utf8 d) (encode_utf8_all ds) E) in
+    let same = encode_same c d (encode_utf8_all cs ++ D) (encode_utf8_all ds ++ E) (simp append_assoc at e) in
     one_blank cs ds D E (second_so (is_whitespace c) (list_all is_whitespace cs) a) (second_so (is_whitespace d) (list_all is_whitespace ds) b) no_d no_e same.1
-
-plain_mark : (c : ℕ) → (eqb c 118 || eqb c 86) ≡ true → (c < 128) × (is_whitespace c ≡ true → ⊥)
-plain_mark c h = (grind (arith, nat_tests), λ white. grind (arith, nat_tests))
 
 -- a text may be cut after the mark
 pub mark_boundary : (text : List ℕ) (n : ℕ) → IsUtf8 text → n ≡ mark_len text → IsCharBoundary text n
-mark_boundary [] n u e = rw e (IsCharBoundary-start [] u)
-mark_boundary (c ∷ rest) n u e = elim (cases_Bool (eqb c 118 || eqb c 86)) [
-  | inl mark ↦
-      let one : n ≡ 1 = rw mark at e in
-      rw one (IsCharBoundary-after_ascii (c ∷ rest) 0 u (omega arith) (plain_mark c mark).0)
-  | inr none ↦ rw (rw none at e) (IsCharBoundary-start (c ∷ rest) u)
-]
+mark_boundary text n u e = grind (arith, nat_tests, IsCharBoundary-start text u, IsCharBoundary-after_ascii text 0 u)
 
 pub mark_is : (text : List ℕ) → IsMark (take (mark_len text) text)
 mark_is [] = no_mark
-mark_is (c ∷ rest) = elim (cases_Bool (eqb c 118)) [
-  | inl small ↦ rw (eqb-true c 118 small) small_mark
-  | inr other ↦ elim (cases_Bool (eqb c 86)) [
-    | inl capital ↦ rw (eqb-true c 86 capital) capital_mark
-    | inr none ↦ rw (other, none) no_mark
-  ]
-]
+mark_is (c ∷ rest) = grind (arith, nat_tests, no_mark, small_mark, capital_mark)
 
 pub no_mark_at : (c : ℕ) (t : List ℕ) → ((eqb c 118 || eqb c 86) ≡ true → ⊥) → mark_len (c ∷ t) ≡ 0
-no_mark_at c t never = elim (cases_Bool (eqb c 118 || eqb c 86)) [
-  | inl mark ↦ absurd (never mark)
-  | inr none ↦ rw none refl
-]
-
-white_no_mark : (t : List ℕ) (c : ℕ) (rest : List ℕ) → is_whitespace c ≡ true → t ≡ encode_utf8 c ++ rest → mark_len t ≡ 0
-white_no_mark [] c rest h e = refl
-white_no_mark (b ∷ t) c rest h e = no_mark_at b t (λ m.
-    let plain = plain_mark b m in
-    plain.1 (ap is_whitespace (sym (char_from_byte (b ∷ t) rest c e plain.0 (omega arith))) ∙ h))
+no_mark_at c t never = grind arith
 
 -- whitespace and then a digit are no mark
 blank_no_mark : (cs D : List ℕ) → list_all is_whitespace cs ≡ true → begins is_ascii_digit D ≡ true → mark_len (encode_utf8_all cs ++ D) ≡ 0
-blank_no_mark [] [] a h = cc
-blank_no_mark [] (c ∷ D) a h = no_mark_at c D (plain_digit c h).2
-blank_no_mark (c ∷ cs) D a h =
-    white_no_mark (encode_utf8_all (c ∷ cs) ++ D) c (encode_utf8_all cs ++ D) (first_so (is_whitespace c) (list_all is_whitespace cs) a)
-    (append_assoc (encode_utf8 c) (encode_utf8_all cs) D)
+blank_no_mark [] D a h = grind (arith, nat_tests)
+blank_no_mark (c ∷ cs) D a h = grind (arith, nat_tests, blank_byte (encode_utf8_all (c ∷ cs) ++ D) (begins_blank c cs D a))
 
 -- past the mark
 past_mark : (text mark D : List ℕ) → IsMark mark → text ≡ mark ++ D → mark_len D ≡ 0 → drop (mark_len text) text ≡ D
-past_mark text mark D no_mark e none = rw (e, none) refl
-past_mark text mark D small_mark e none = rw e refl
-past_mark text mark D capital_mark e none = rw e refl
+past_mark text mark D is e none = grind arith
 
 pub number_begins : (d r : List ℕ) → 0 < length d → list_all is_ascii_digit d ≡ true → begins is_ascii_digit (d ++ r) ≡ true
 number_begins [] r some each = absurd (omega arith)
-number_begins (c ∷ d) r some each = first_so (is_ascii_digit c) (list_all is_ascii_digit d) each
+number_begins (c ∷ d) r some each = grind arith
 
 -- where the reader stands, behind the mark and the whitespace
 pub loose_some : (limit : ℕ) (text : List ℕ) (start : ℕ) (v : VersionValue) → IsAfterBlank text (mark_len text) start → version_at limit text start ≡ Some v → Reads limit text v
