@@ -2,9 +2,8 @@
 use Rattle.semver_core.specs.Internal.Parts.{cut_bars}
 use Rattle.semver_core.specs.Text.Bars.{IsCutAtBars, has_bars, is_bar, more_pieces, one_piece}
 use Rattle.semver_core.specs.Text.Characters.{begins, ends}
-use Rattle.std.proofs.Common.{[], IsUtf8, List, arith, false, inl, inr, length, length-append, refl, subst, sym, true, ℕ, ◌&&◌, ◌++◌, ◌<◌, ◌∙◌, ◌∷◌}
+use Rattle.std.proofs.Common.{[], IsUtf8, List, arith, false, inl, inr, length, length-append, refl, subst, sym, true, ℕ, ◌&&◌, ◌++◌, ◌<◌, ◌∷◌}
 use Rattle.std.proofs.Common.{◌≡◌}
-use Rattle.std.proofs.Math.Bool.{and-true}
 use Rattle.std.proofs.Math.Seq.{get_or-append_seam}
 use Rattle.std.proofs.lemmas.Bool.{and_parts, and_right, cases_Bool, eqb-true, or_from}
 use Rattle.std.proofs.lemmas.List.{drop_at, take_at}
@@ -43,10 +42,9 @@ onto : (b : ℕ) (text : List ℕ) (pieces : List (List ℕ)) → (is_bar b && b
 onto b text pieces here (one_piece piece h) =
     one_piece (b ∷ piece) (or_from (is_bar b && begins is_bar piece) (has_bars piece) here h)
 onto b text pieces here (more_pieces [] rest others h ended cut) =
-    more_pieces (b ∷ []) rest others (or_from (is_bar b && false) false (and_right (is_bar b) false refl) refl)
-    (sym (and-true (is_bar b)) ∙ here) cut
+    more_pieces (b ∷ []) rest others (grind arith) (grind arith) cut
 onto b text pieces here (more_pieces (c ∷ piece) rest others h ended cut) =
-    more_pieces (b ∷ c ∷ piece) rest others (or_from (is_bar b && is_bar c) (has_bars (c ∷ piece)) here h) ended cut
+    more_pieces (b ∷ c ∷ piece) rest others (grind arith) ended cut
 
 bars-first : (b c : ℕ) (t : List ℕ) → is_bar b ≡ true → is_bar c ≡ true → 124 ∷ (124 ∷ t) ≡ b ∷ (c ∷ t)
 bars-first b c t one two = rw (eqb-true b 124 one, eqb-true c 124 two) refl

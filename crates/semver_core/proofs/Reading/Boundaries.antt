@@ -9,12 +9,11 @@ use Rattle.semver_core.specs.Internal.Spaces.{after_spaces, drop_spaces, space_l
 use Rattle.semver_core.specs.Text.Boundaries.{IsBoundary, IsFirstBoundary, SkipsBlank}
 use Rattle.semver_core.specs.Text.Characters.{BeginsBlank, IsBlank, IsTrim}
 use Rattle.std.proofs.Common.{[], IsCharBoundary, IsUtf8, List, Some, ap, append_assoc, arith, drop, encode_utf8_all, false, inl, inr, length}
-use Rattle.std.proofs.Common.{length-append, nat_lt, refl, subst, suc, sym, true, zero, ℕ, ◌++◌, ◌+◌, ◌<◌, ◌∙◌, ◌∷◌, ◌≡◌, ◌≤◌}
+use Rattle.std.proofs.Common.{length-append, refl, subst, suc, sym, true, zero, ℕ, ◌++◌, ◌+◌, ◌<◌, ◌∙◌, ◌∷◌, ◌≡◌, ◌≤◌}
 use Rattle.std.proofs.Math.Seq.{get_or-append_seam}
 use Rattle.std.proofs.lemmas.Bool.Decides.{nat_tests}
 use Rattle.std.proofs.lemmas.Bool.{cases_Bool}
 use Rattle.std.proofs.lemmas.List.{drop_at, drop_more, take_at}
-use Rattle.std.proofs.lemmas.Option.{cond_some}
 use Rattle.std.proofs.lemmas.Str.{IsCharBoundary-after_ascii, IsCharBoundary-at_seam, IsUtf8-drop, IsUtf8-nil, IsUtf8-past_char, IsUtf8-take}
 use Rattle.std.proofs.lemmas.Str.{encodes-append, len_utf8_bounds}
 use Rattle.std.specs.Char.{encode_utf8}
@@ -41,13 +40,10 @@ front-dark text h = solid-dark text (component-solid text h)
 pub spaced : (text : List ℕ) → IsUtf8 text → (space : List ℕ) × IsBlank space × (text ≡ space ++ drop_spaces text)
 spaced text u =
     let f = fronted u.0 in
-    let split : text ≡ encode_utf8_all f.before ++ encode_utf8_all f.rest =
-    sym u.1.1 ∙ (ap (λ (t : List ℕ). encode_utf8_all t) f.divided ∙ encodes-append f.before f.rest) in
-    let left : drop_spaces text ≡ encode_utf8_all f.rest =
-    ap (λ (t : List ℕ). drop_spaces t) split
-    ∙ (drop_spaces-blank f.before (encode_utf8_all f.rest) f.blank
-    ∙ drop_spaces-none (encode_utf8_all f.rest) (dark-starts f.rest f.dark)) in
-    grind arith
+    let rest = encode_utf8_all f.rest in
+    let blank = drop_spaces-blank f.before rest f.blank in
+    let left = drop_spaces-none rest (dark-starts f.rest f.dark) in
+    grind (arith, encodes-append f.before f.rest)
 
 -- ---- the first boundary
 
@@ -86,8 +82,7 @@ past-all (c ∷ cs) rest u =
     past-all cs rest (IsUtf8-past_char (encode_utf8_all (c ∷ cs) ++ rest) (encode_utf8_all cs ++ rest) c u whole)
 
 pub skips-utf8 : (text rest : List ℕ) → SkipsBlank text rest → IsUtf8 text → IsUtf8 rest
-skips-utf8 text rest h u =
-    past-all h.2.characters rest (subst (λ (t : List ℕ). IsUtf8 t) (h.1 ∙ ap (λ (t : List ℕ). t ++ rest) h.2.spelled) u)
+skips-utf8 text rest h u = grind (arith, past-all h.2.characters rest)
 
 -- ---- boundaries
 
@@ -131,16 +126,14 @@ pub skips-of : (text rest : List ℕ) → IsUtf8 text → SkipsBlank text rest �
 skips-of text rest u h =
     let v = skips-utf8 text rest h u in
     let none : space_len rest ≡ 0 = grind (arith, h.3, suffix-blank [] rest v) in
-    ap drop_spaces h.1 ∙ (ap (λ (t : List ℕ). drop_spaces (t ++ rest)) h.2.spelled
-    ∙ (drop_spaces-blank h.2.characters rest h.2.each ∙ drop_spaces-none rest none))
+    grind (arith, drop_spaces-blank h.2.characters rest h.2.each, drop_spaces-none)
 
 pub some_space-is : (front text rest : List ℕ) → IsUtf8 (front ++ text) → after_some_space text ≡ Some rest → IsUtf8 text
     × BeginsBlank text × SkipsBlank text rest
 some_space-is front text rest u h =
-    let b = cond_some (nat_lt 0 (space_len text)) (drop_spaces text) rest h in
-    let some : 0 < space_len text = grind (arith, nat_tests, b.0) in
+    let some : 0 < space_len text = grind (arith, nat_tests) in
     let v = suffix-utf8 front text u some in
-    (v, suffix-blank front text u some, subst (λ (t : List ℕ). SkipsBlank text t) b.1 (skips-is text v))
+    (v, suffix-blank front text u some, grind (arith, nat_tests, skips-is text v))
 
 pub byte-is : (c : ℕ) (text rest : List ℕ) → after_byte c text ≡ Some rest → text ≡ c ∷ rest
 byte-is c text rest h = grind arith

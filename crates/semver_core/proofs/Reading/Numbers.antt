@@ -1,11 +1,10 @@
 -- Numbers: as a whole text, and at the front of one.
-use Rattle.semver_core.proofs.Reading.Steps.{option-cases}
+use Rattle.semver_core.proofs.{Reading.Steps.option-cases, Text.Runs.{prefix_ends, prefix_whole}}
 use Rattle.semver_core.specs.Internal.Fronts.{begins_padded, begins_wildcard, component_front, is_wildcard, number_front, number_of, number_with}
 use Rattle.semver_core.specs.Text.Characters.{IsPieceAt, NoPieceAt, begins}
 use Rattle.semver_core.specs.Text.Numbers.{IsNumber, IsWholeNumber}
-use Rattle.std.proofs.Common.{[], Bool, List, None, Some, arith, drop, false, inl, inr, length, not, refl, suc, take, true, ℕ, ◌&&◌, ◌++◌, ◌+◌, ◌-◌, ◌∷◌, ◌≡◌, ◌≤◌}
+use Rattle.std.proofs.Common.{Bool, List, None, Some, arith, drop, false, inl, inr, length, not, refl, take, true, ℕ, ◌&&◌, ◌++◌, ◌-◌, ◌≡◌, ◌≤◌}
 use Rattle.std.proofs.lemmas.Bool.Decides.{nat_tests}
-use Rattle.std.proofs.lemmas.Bool.{cases_Bool}
 use Rattle.std.proofs.lemmas.Grind.{common_steps}
 use Rattle.std.proofs.lemmas.List.Sums.{prefix_len-drop_all, prefix_len-drop_no, prefix_len-drop_yes}
 use Rattle.std.proofs.lemmas.List.{drop_at, take-append-drop, take_at, take_rest}
@@ -33,15 +32,10 @@ pub ruleset prefix_steps = (prefix_len-drop_all, prefix_len-drop_no, prefix_len-
 
 pub digits-taken : (run more : List ℕ) → list_all is_ascii_digit run ≡ true → begins is_ascii_digit more ≡ false
     → prefix_len is_ascii_digit (run ++ more) ≡ length run
-digits-taken [] more h k = grind arith
-digits-taken (b ∷ rest) more h k = grind (arith, digits-taken rest more)
+digits-taken run more h k = prefix_whole is_ascii_digit run more h k
 
 pub run-ends : (x : List ℕ) → begins is_ascii_digit (drop (prefix_len is_ascii_digit x) x) ≡ false
-run-ends [] = refl
-run-ends (b ∷ rest) = elim (cases_Bool (is_ascii_digit b)) [
-  | inl digit ↦ let e : 1 + prefix_len is_ascii_digit rest ≡ suc (prefix_len is_ascii_digit rest) = omega arith in rw (digit, e) (run-ends rest)
-  | inr other ↦ rw other other
-]
+run-ends x = prefix_ends is_ascii_digit x
 
 -- a number is read that ends with its run of digits
 pub number-read : (limit : ℕ) (run more : List ℕ) (n : ℕ) → IsNumber limit run n → begins is_ascii_digit more ≡ false

@@ -18,8 +18,7 @@ pub record Passed (text : List ℕ) (at end : ℕ) (rest passed : List ℕ) : Ty
 
 pub passed_none : (text : List ℕ) (at : ℕ) (rest : List ℕ) → IsCharBoundary text at → rest ≡ drop at text → Passed text at at rest []
 passed_none text at rest b e =
-    let none : at - at ≡ 0 = omega arith in
-    record { after = omega arith; boundary = b; rest_is = e; blank = rw none refl; each = refl }
+    record { after = omega arith; boundary = b; rest_is = e; blank = grind arith; each = refl }
 
 pub passed_room : (text : List ℕ) (at end : ℕ) (rest passed next : List ℕ) (c n : ℕ) → Passed text at end rest passed → rest ≡ encode_utf8 c ++ next → n ≡ len_utf8 c
     → end + n ≤ length text

@@ -1,11 +1,11 @@
 -- What a loop over digits reads, step by step.
 use Rattle.semver_core.proofs.Common.{List, None, Some, add-one, arith, drop, false, get_or, length, ltb, refl, true, ℕ, ◌*◌}
 use Rattle.semver_core.proofs.Common.{◌+◌, ◌-◌, ◌<◌, ◌≡◌, ◌≤◌, drop-cons, nat_tests, drop_all, digit_value, is_ascii_digit}
-use Rattle.semver_core.proofs.Common.{◌==◌, digits_end, digits_from, if◌then◌else◌, begins, Bool, inl, inr, cases_lt, take_rest}
-use Rattle.semver_core.proofs.Common.{IsWholeNumber, Option, sym, number_at, IsPieceAt, IfSome, IfNone, is_identifier_char}
-use Rattle.semver_core.proofs.Common.{AlphaNumeric, Numeric, identifier_of, [], ap, take, ◌∙◌, ◌∷◌, length-drop, list_all}
-use Rattle.semver_core.proofs.Common.{prefix_len, number_of_run, MAX_SAFE_INTEGER, ◌++◌, run_from, add-zero, ◌^◌}
-use Rattle.semver_core.proofs.Common.{prefix_len-le-length, digits_value_after, take-append_seam, ◌&&◌, lt-ltb}
+use Rattle.semver_core.proofs.Common.{◌==◌, digits_end, digits_from, if◌then◌else◌, begins, Bool, take_rest, IsWholeNumber}
+use Rattle.semver_core.proofs.Common.{Option, sym, number_at, IsPieceAt, IfSome, IfNone, is_identifier_char, AlphaNumeric}
+use Rattle.semver_core.proofs.Common.{Numeric, identifier_of, [], ap, take, ◌∙◌, ◌∷◌, length-drop, list_all, prefix_len}
+use Rattle.semver_core.proofs.Common.{number_of_run, MAX_SAFE_INTEGER, ◌++◌, run_from, add-zero, ◌^◌, prefix_len-le-length}
+use Rattle.semver_core.proofs.Common.{digits_value_after, take-append_seam, ◌&&◌, lt-ltb}
 use Rattle.semver_core.specs.{Internal.CommonReading.{grown, id_by}, Text.Characters.{HasFeed, NoPieceAt}}
 use Rattle.std.proofs.Common.{drop-drop}
 use Rattle.semver_core.proofs.Text.Runs.{all_more, prefix_ends, prefix_whole, take_one}
@@ -49,10 +49,7 @@ last_feed [] = refl
 last_feed (b ∷ front) = grind (arith, last_feed front)
 
 pub some_feed : (bytes : List ℕ) (at : ℕ) → HasFeed (drop at bytes) → at < length bytes
-some_feed bytes at feed = elim (cases_lt at (length bytes)) [
-  | inl inside ↦ inside
-  | inr past ↦ cc (rw (drop_all at bytes past) at feed)
-]
+some_feed bytes at feed = grind (arith, drop_all)
 
 pub feed_inside : (bytes : List ℕ) (at : ℕ) → HasFeed (drop at bytes) → ltb at (length bytes) ≡ true
 feed_inside bytes at feed = lt-ltb at (length bytes) (some_feed bytes at feed)
@@ -60,10 +57,7 @@ feed_inside bytes at feed = lt-ltb at (length bytes) (some_feed bytes at feed)
 -- ---- Places in a text.
 
 pub begins_before_end : (test : ℕ → Bool) (text : List ℕ) (at : ℕ) → begins test (drop at text) ≡ true → at < length text
-begins_before_end test text at h = elim (cases_lt at (length text)) [
-  | inl inside ↦ inside
-  | inr past ↦ cc (rw (drop_all at text past) at h)
-]
+begins_before_end test text at h = grind (arith, drop_all)
 
 pub ruleset places = (begins_before_end, take_rest)
 
@@ -123,14 +117,10 @@ pub id_spelled : (run : List ℕ) → id_by (number_of_run (Some 0) run) run ≡
 id_spelled run = grind (arith, nat_tests, run_number 0 run)
 
 pub grown_small : (v b : ℕ) → v < 2 ^ 64 → is_ascii_digit b ≡ true → v * 10 + (b - 48) < 2 ^ 64 → grown (Some v) b ≡ Some (v * 10 + (b - 48))
-grown_small v b s d h =
-    let fits : ltb (v * 10 + digit_value b) (2 ^ 64) ≡ true = rw (digit_value-is b d) (grind (arith, nat_tests)) in
-    rw (d, fits, digit_value-is b d) refl
+grown_small v b s d h = grind (arith, nat_tests, digit_value-is)
 
 pub grown_big : (v b : ℕ) → is_ascii_digit b ≡ true → 2 ^ 64 ≤ v * 10 + (b - 48) → grown (Some v) b ≡ None
-grown_big v b d h =
-    let over : ltb (v * 10 + digit_value b) (2 ^ 64) ≡ false = rw (digit_value-is b d) (grind (arith, nat_tests)) in
-    rw (d, over) refl
+grown_big v b d h = grind (arith, nat_tests, digit_value-is)
 
 -- the run that `scan_run` found
 pub scan_end : (text : List ℕ) (start : ℕ) (r : ℕ × Option ℕ) → r ≡ run_from (Some 0) start (drop start text)
@@ -144,7 +134,8 @@ pub scan_fits : (text : List ℕ) (start : ℕ) (r : ℕ × Option ℕ) → r �
     → (start ≤ r.0) × (r.0 ≤ length text)
 scan_fits text start r e le =
     let end = (scan_end text start r e).0 in
-    (omega (arith, end), omega (arith, end, prefix_len-le-length is_identifier_char (drop start text), length-drop start text))
+    let most = prefix_len-le-length is_identifier_char (drop start text) in
+    (omega arith, omega (arith, length-drop start text))
 
 -- no character of identifiers stands there
 pub scan_stops : (text : List ℕ) (start : ℕ) (r : ℕ × Option ℕ) → r ≡ run_from (Some 0) start (drop start text) → begins is_identifier_char (drop r.0 text) ≡ false

@@ -86,8 +86,7 @@ listed_runs [] h = absurd (omega arith)
 listed_runs (c ∷ rest) h = refl
 
 begins_some : (text : List ℕ) → begins is_identifier_char text ≡ true → 0 < length text
-begins_some [] h = cc
-begins_some (c ∷ rest) h = omega arith
+begins_some text h = grind arith
 
 whole_spelled : (text : List ℕ) → begins is_identifier_char text ≡ true → list_len text ≡ length text → is_listed text ≡ true
 whole_spelled text h e = rw (ap (λ n. take n text) e ∙ take_all (length text) text (omega arith)) at (is_spelled (take (list_len text) text) (runs_taken text h))
@@ -97,10 +96,7 @@ none_listed [] h = nothing_listed
 none_listed (c ∷ rest) h = absurd (omega arith)
 
 pub not_begun : (text : List ℕ) → 0 < length text → begins is_identifier_char text ≡ false → is_listed text ≡ false
-not_begun text some h = elim (cases_Bool (is_listed text)) [
-  | inl spelled ↦ cc (rw h at (listed_begins text spelled some))
-  | inr other ↦ other
-]
+not_begun text some h = grind (arith, listed_begins)
 
 pub whole_listed : (text : List ℕ) → begins is_identifier_char text ≡ true → (list_len text == length text) ≡ is_listed text
 whole_listed text h = elim (cases_Bool (is_listed text)) [

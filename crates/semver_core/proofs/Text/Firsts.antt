@@ -1,10 +1,12 @@
 -- A text that spells a list of identifiers spells the first one and then the others.
-use Rattle.semver_core.proofs.Common.{is_empty, Id, identifier_of, is_identifier, pieces, is_listed, listed, id_cmp, List, Option}
-use Rattle.semver_core.proofs.Common.{Some, [], add-one, add_comm, ap, arith, drop, eqb, false, inl, inr, length, refl, sym, take}
-use Rattle.semver_core.proofs.Common.{true, zero-add, ℕ, ◌+◌, ◌<◌, ◌∙◌, ◌∷◌, ◌≡◌, ◌≤◌, nat_tests, cases_Bool, eqb-true, drop-drop}
-use Rattle.semver_core.proofs.Common.{slice_cmp, list_all, onto_first, ◌==◌, Equal, Greater, Less, number_of_run, run_from, map}
-use Rattle.semver_core.proofs.Common.{AlphaNumeric, None, begins, is_identifier_char, is_normal, is_u64_text, ltb, not, take_all, ◌&&◌}
+use Rattle.semver_core.proofs.Common.{is_empty, Id, identifier_of, is_identifier, pieces, is_listed, listed, id_cmp, List}
+use Rattle.semver_core.proofs.Common.{Option, Some, [], arith, drop, eqb, false, inl, inr, length, refl, take, true, zero-add}
+use Rattle.semver_core.proofs.Common.{ℕ, ◌+◌, ◌<◌, ◌∙◌, ◌∷◌, ◌≡◌, ◌≤◌, nat_tests, cases_Bool, eqb-true, drop-drop, slice_cmp}
+use Rattle.semver_core.proofs.Common.{list_all, onto_first, ◌==◌, Equal, Greater, Less, number_of_run, run_from, map}
+use Rattle.semver_core.proofs.Common.{AlphaNumeric, begins, is_identifier_char, is_normal, is_u64_text, ltb, not, take_all}
+use Rattle.semver_core.proofs.Common.{◌&&◌}
 use Rattle.std.specs.Option.{is_none}
+use Rattle.semver_core.proofs.Text.Runs.{drop_one, take_one}
 use Rattle.semver_core.{specs.Internal.CommonReading.{id_by, run_len}, proofs.Text.Digits.{id_spelled, scan_end, scan_fits}}
 use Rattle.semver_core.proofs.Text.{Listed.{listed_none, listed_some}, Pieces.{first_char, runs_tail, tail_onto, tail_runs}}
 
@@ -26,16 +28,14 @@ pieces_split [] h = (refl, refl)
 pieces_split (c ∷ rest) h = elim (cases_Bool (eqb c 46)) [
   | inl dot ↦
       let runs : list_all is_identifier (pieces rest) ≡ true = rw dot at h in
-      let is : c ≡ 46 = eqb-true c 46 dot in
-      let same = later_some rest runs in
-      rw is (rw same (refl, runs))
+      rw (eqb-true c 46 dot, later_some rest runs) (refl, runs)
   | inr other ↦
       let split : tail_runs (onto_first c (pieces rest)) ≡ true = rw other at h in
       let next = pieces_split rest (tail_onto c (pieces rest) split) in
       let here = first_char c (pieces rest) split in
-      let taken : take (run_len (c ∷ rest)) (c ∷ rest) ≡ c ∷ take (run_len rest) rest = rw (here, add_comm 1, add-one) refl in
-      let len : run_len (c ∷ rest) + 1 ≡ run_len rest + 1 + 1 = rw here (omega arith) in
-      let dropped : others (c ∷ rest) ≡ others rest = rw (len, add-one (run_len rest + 1)) refl in
+      let taken : take (run_len (c ∷ rest)) (c ∷ rest) ≡ c ∷ take (run_len rest) rest = rw here (take_one (run_len rest) c rest) in
+      let len : run_len (c ∷ rest) + 1 ≡ 1 + (run_len rest + 1) = rw here (omega arith) in
+      let dropped : others (c ∷ rest) ≡ others rest = rw len (drop_one (run_len rest + 1) c rest) in
       rw (taken, dropped, other, next.0) (refl, next.1)
 ]
 
@@ -53,12 +53,7 @@ pub listed_first : (text : List ℕ) → is_listed text ≡ true → 0 < length 
     → (listed text ≡ identifier_of (take (run_len text) text) ∷ listed (others text)) × (is_listed (others text) ≡ true)
 listed_first [] h some = absurd (omega arith)
 listed_first (c ∷ rest) h some =
-    let runs : list_all is_identifier (pieces (c ∷ rest)) ≡ true = sym (is_listed_later (c ∷ rest)) ∙ h in
-    let split = pieces_split (c ∷ rest) (runs_tail (pieces (c ∷ rest)) runs) in (
-      listed_later (c ∷ rest) ∙ ap (map identifier_of) split.0
-          ∙ ap (λ l. identifier_of (take (run_len (c ∷ rest)) (c ∷ rest)) ∷ l) (sym (listed_later (others (c ∷ rest)))),
-      is_listed_later (others (c ∷ rest)) ∙ split.1,
-    )
+    grind (arith, is_listed_later, listed_later, pieces_split (c ∷ rest), runs_tail)
 
 -- the run that `scan_run` found at the front
 pub front_end : (text : List ℕ) (r : ℕ × Option ℕ) → r ≡ run_from (Some 0) 0 (drop 0 text) → r.0 ≡ run_len text
@@ -109,28 +104,16 @@ pub ruleset compared = (both_end, first_ends, second_ends)
 pub spelled_release : (text : List ℕ) → (length text == 0) ≡ is_empty (listed text)
 unfolding listed
 spelled_release [] = refl
-spelled_release (c ∷ rest) =
-    let some : (length (c ∷ rest) == 0) ≡ false = grind (arith, nat_tests) in
-    rw (some, (spelled_some (c ∷ rest) some).1.1) refl
+spelled_release (c ∷ rest) = grind (arith, nat_tests, spelled_some (c ∷ rest))
 
 -- ---- a text that spells itself
 
 whole_run : (text : List ℕ) → (run_len text == length text) ≡ list_all is_identifier_char text
 whole_run [] = refl
-whole_run (c ∷ rest) = elim (cases_Bool (is_identifier_char c)) [
-  | inl passes ↦ rw passes (grind (arith, nat_tests, whole_run rest))
-  | inr fails ↦ rw fails (grind (arith, nat_tests))
-]
+whole_run (c ∷ rest) = grind (arith, nat_tests, whole_run rest)
 
 written : (n : Option ℕ) (text : List ℕ) → id_by n text ≡ identifier_of text → is_none n ≡ not (is_u64_text text)
-written None text e = elim (cases_Bool (is_u64_text text)) [
-  | inl number ↦ cc (rw number at e)
-  | inr other ↦ rw other refl
-]
-written (Some v) text e = elim (cases_Bool (is_u64_text text)) [
-  | inl number ↦ rw number refl
-  | inr other ↦ cc (rw other at e)
-]
+written n text e = grind arith
 
 pub run_normal : (text : List ℕ) (r : ℕ × Option ℕ) → begins is_identifier_char text ≡ true → r ≡ run_from (Some 0) 0 (drop 0 text)
     → is_normal (AlphaNumeric text) ≡ (r.0 == length text && is_none r.1)

@@ -1,27 +1,19 @@
 -- A text that spells a list of identifiers is its own longest list.
 use Rattle.semver_core.proofs.Common.{list_at, begins, is_identifier_char, Id, IsLongestIdentifiers, identifier_of}
-use Rattle.semver_core.proofs.Common.{is_identifier, pieces, is_listed, listed, id_view, ids_view, Identifier, List, Some}
-use Rattle.semver_core.proofs.Common.{[], ap, append-nil, arith, eqb, false, inl, inr, length, refl, sym, take, true, ℕ, ◌+◌, ◌<◌, ◌≤◌}
-use Rattle.semver_core.proofs.Common.{◌∙◌, ◌∷◌, ◌≡◌, cases_Bool, eqb-true, list_all, onto_first, IsUtf8, ◌==◌, length-map}
-use Rattle.semver_core.proofs.Common.{length-slice_split, IsUtf8-from_ascii, IsAscii-cons, IsAscii-nil, IsAscii}
-use Rattle.semver_core.proofs.Common.{AlphaNumeric, Numeric, IsId, Bool, subst, ◌*◌, nat_tests, and_parts, digit_value}
-use Rattle.semver_core.proofs.Common.{is_ascii_digit, All, digits_value, is_u64_text, map, ◌^◌, All-cons, All-nil}
-use Rattle.semver_core.proofs.Common.{join_with_byte, digits_value_after, if◌then◌else◌, zero-add}
+use Rattle.semver_core.proofs.Common.{is_identifier, pieces, is_listed, listed, id_view, ids_view, Identifier, List, Some, []}
+use Rattle.semver_core.proofs.Common.{ap, append-nil, arith, false, length, refl, sym, take, true, ℕ, ◌+◌, ◌<◌, ◌≤◌, ◌∙◌, ◌∷◌}
+use Rattle.semver_core.proofs.Common.{◌≡◌, eqb-true, list_all, IsUtf8, ◌==◌, length-map, length-slice_split, IsUtf8-from_ascii}
+use Rattle.semver_core.proofs.Common.{IsAscii-cons, IsAscii-nil, IsAscii, Numeric, IsId, Bool, subst, nat_tests, and_parts}
+use Rattle.semver_core.proofs.Common.{digit_value, is_ascii_digit, All, map, All-cons, All-nil, join_with_byte}
+use Rattle.semver_core.proofs.Common.{digits_value_after, if◌then◌else◌, zero-add}
 use Rattle.{semver_core.specs.Internal.CommonReading.is_plain, std.proofs.lemmas.List.Splits.join_with_byte-slice_split}
 use Rattle.{std.proofs.lemmas.Str.IsAscii-take, std.specs.List.count_by, std.proofs.lemmas.List.Sums.{count_by-le-length, sum_by-cons}, semver_core.proofs.Text.Pieces.first_char}
 use Rattle.semver_core.proofs.Text.Pieces.{list_complete, runs_begin, runs_tail, some_inside, tail_onto, tail_runs, digits_grow}
-use Rattle.semver_core.proofs.Text.Runs.{ascii as small_char, not_dot, of_digits}
+use Rattle.semver_core.proofs.Text.Runs.{ascii as small_char, not_dot}
 
 pub plain_runs : (text : List ℕ) → tail_runs (pieces text) ≡ true → list_all is_plain text ≡ true
 plain_runs [] h = refl
-plain_runs (c ∷ rest) h = elim (cases_Bool (eqb c 46)) [
-  | inl dot ↦
-      let runs : list_all is_identifier (pieces rest) ≡ true = rw dot at h in
-      rw (eqb-true c 46 dot, plain_runs rest (runs_tail (pieces rest) runs)) refl
-  | inr other ↦
-      let split : tail_runs (onto_first c (pieces rest)) ≡ true = rw other at h in
-      rw (first_char c (pieces rest) split, plain_runs rest (tail_onto c (pieces rest) split)) refl
-]
+plain_runs (c ∷ rest) h = grind (arith, nat_tests, first_char, plain_runs rest, runs_tail, tail_onto)
 
 all_ascii : (p : ℕ → Bool) (text : List ℕ) → ((c : ℕ) → p c ≡ true → c < 128) → list_all p text ≡ true → IsAscii text
 all_ascii p [] small h = IsAscii-nil
@@ -95,9 +87,7 @@ is_zero c = c == 48
 
 zeros_whole : (text : List ℕ) → list_all is_zero text ≡ true → pieces text ≡ text ∷ []
 zeros_whole [] h = refl
-zeros_whole (c ∷ rest) h =
-    let both = and_parts (is_zero c) (list_all is_zero rest) h in
-    rw (eqb-true c 48 both.0) (ap (onto_first 48) (zeros_whole rest both.1))
+zeros_whole (c ∷ rest) h = grind (arith, nat_tests, zeros_whole rest)
 
 zeros_value : (text : List ℕ) → list_all is_zero text ≡ true
     → (digits_value_after 10 0 text ≡ 0) × (list_all is_ascii_digit text ≡ true)
@@ -109,33 +99,15 @@ zeros_value (c ∷ rest) h =
 pub zeros_listed : (text : List ℕ) → 0 < length text → list_all is_zero text ≡ true → listed text ≡ Numeric 0 ∷ []
 unfolding listed
 zeros_listed [] some h = absurd (omega arith)
-zeros_listed (c ∷ rest) some h =
-    let v = zeros_value (c ∷ rest) h in
-    let small : digits_value 10 (c ∷ rest) < 2 ^ 64 = omega (arith, v.0) in
-    ap (map identifier_of) (zeros_whole (c ∷ rest) h)
-    ∙ ap (λ id. id ∷ []) (of_digits (c ∷ rest) v.1 small ∙ ap Numeric v.0)
+zeros_listed (c ∷ rest) some h = grind (arith, nat_tests, zeros_value (c ∷ rest), zeros_whole (c ∷ rest))
 
 value_zeros : (text : List ℕ) → list_all is_ascii_digit text ≡ true → digits_value_after 10 0 text ≡ 0
     → list_all is_zero text ≡ true
 value_zeros [] d e = refl
-value_zeros (c ∷ rest) d e =
-    let both = and_parts (is_ascii_digit c) (list_all is_ascii_digit rest) d in
-    let grown = digits_grow (0 * 10 + digit_value c) rest in
-    let none : digit_value c ≡ 0 = omega (arith, grown, e) in
-    let zero : c ≡ 48 = grind (arith, nat_tests, none, both.0) in
-    rw zero (value_zeros rest both.1 (rw (zero) at e))
-
-abbrev number_of : Id → ℕ
-number_of (Numeric n) = n
-number_of (AlphaNumeric t) = 1
+value_zeros (c ∷ rest) d e = grind (arith, nat_tests, digits_grow (digit_value c) rest, value_zeros rest)
 
 id_zeros : (text : List ℕ) → identifier_of text ≡ Numeric 0 → list_all is_zero text ≡ true
-id_zeros text e = elim (cases_Bool (is_u64_text text)) [
-  | inl fits ↦
-      let both = and_parts (list_all is_ascii_digit text) _ fits in
-      value_zeros text both.0 (ap number_of (rw fits at e))
-  | inr long ↦ absurd (let one : 1 ≡ 0 = ap number_of (rw long at e) in omega (arith, one))
-]
+id_zeros text e = grind (arith, value_zeros)
 
 one_piece : (ps : List (List ℕ)) → map identifier_of ps ≡ Numeric 0 ∷ [] → list_all is_zero (join_with_byte 46 ps) ≡ true
 one_piece [] e = cc
@@ -151,13 +123,8 @@ listed_zeros (c ∷ rest) e =
 -- ---- identifiers of versions
 
 id_valid : (text : List ℕ) → is_identifier text ≡ true → IsId (identifier_of text)
-id_valid text h = elim (cases_Bool (is_u64_text text)) [
-  | inl fits ↦
-      let both = and_parts (list_all is_ascii_digit text) _ fits in
-      let small : digits_value 10 text < 2 ^ 64 = grind (arith, nat_tests, both.1) in
-      rw fits small
-  | inr long ↦ rw long (IsUtf8-from_ascii text (all_ascii is_identifier_char text small_char (and_parts _ (list_all is_identifier_char text) h).1))
-]
+id_valid text h =
+    grind (arith, nat_tests, IsUtf8-from_ascii, all_ascii is_identifier_char text small_char)
 
 ids_valid : (ps : List (List ℕ)) → list_all is_identifier ps ≡ true → All IsId (map identifier_of ps)
 ids_valid [] h = All-nil IsId

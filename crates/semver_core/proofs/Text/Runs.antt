@@ -115,14 +115,14 @@ ascii c h = grind (arith, nat_tests)
 pub run_boundary : (text : List ℕ) (start end : ℕ) → IsUtf8 text → start ≤ length text → begins is_identifier_char (drop start text) ≡ true
     → end ≡ start + prefix_len is_identifier_char (drop start text) → IsCharBoundary text end
 run_boundary text start end u le h is =
+    let n = prefix_len is_identifier_char (drop start text) in
     let some = prefix_some (drop start text) h in
     let most = prefix_len-le-length is_identifier_char (drop start text) in
-    let last : end - 1 ≡ start + (prefix_len is_identifier_char (drop start text) - 1) = omega arith in
-    let inside : end - 1 < length text = omega (arith, length-drop start text) in
-    let passes = prefix_len_passes is_identifier_char (drop start text) (prefix_len is_identifier_char (drop start text) - 1) 0 (omega arith) in
-    let low : get_or text (end - 1) 0 < 128 = ascii _ (rw last (rw get_or-drop at passes)) in
-    let e : end - 1 + 1 ≡ end = omega arith in
-    rw e at (IsCharBoundary-after_ascii text (end - 1) u inside low)
+    let inside : start + (n - 1) < length text = omega (arith, length-drop start text) in
+    let passes = prefix_len_passes is_identifier_char (drop start text) (n - 1) 0 (omega arith) in
+    let low : get_or text (start + (n - 1)) 0 < 128 = ascii _ (rw get_or-drop at passes) in
+    let last : start + (n - 1) + 1 ≡ end = omega arith in
+    rw last at (IsCharBoundary-after_ascii text (start + (n - 1)) u inside low)
 
 -- the last run of a list
 pub list_done : (text : List ℕ) (at start end : ℕ) (before : List Id) (id : Id) → begins is_identifier_char (drop at text) ≡ true

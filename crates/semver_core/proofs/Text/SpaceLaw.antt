@@ -2,26 +2,17 @@
 use Rattle.semver_core.proofs.Common.{is_whitespace, List, [], ap, arith, false, inl, inr, refl, true, ℕ, ◌*◌, ◌++◌, ◌+◌, ◌<◌}
 use Rattle.semver_core.proofs.Common.{◌∙◌, ◌∷◌, ◌≡◌, ◌≤◌, nat_tests, cases_lt, lt-ltb, len_utf8, encode_utf8, space_len}
 use Rattle.semver_core.proofs.Common.{if◌then◌else◌, ◌%◌, ◌/◌, le-ltb, encode_ascii}
-use Rattle.{semver_core.specs.Internal.Spaces.{space_len_two, space_len_three, goes_on_with}, std.proofs.lemmas.Bool.le-leb}
+use Rattle.semver_core.specs.Internal.Spaces.{space_len_two, space_len_three, goes_on_with}
 use Rattle.std.{proofs.lemmas.Str.len_utf8_ascii, specs.Int.is_in_range}
 
 two_code : (c : ℕ) → 128 ≤ c → c < 2048 → ((192 + c / 64) % 32) * 64 + (128 + c % 64) % 64 ≡ c
-two_code c h l =
-    let a : (192 + c / 64) % 32 ≡ c / 64 = omega arith in
-    let b : (128 + c % 64) % 64 ≡ c % 64 = omega arith in
-    rw (a, b) (omega arith)
+two_code c h l = omega arith
 
 three_code : (c : ℕ) → 2048 ≤ c → c < 65536 → (((224 + c / 4096) % 16) * 64 + (128 + (c / 64) % 64) % 64) * 64 + (128 + c % 64) % 64 ≡ c
-three_code c h l =
-    let a : (224 + c / 4096) % 16 ≡ c / 4096 = omega arith in
-    let b : (128 + (c / 64) % 64) % 64 ≡ (c / 64) % 64 = omega arith in
-    let d : (128 + c % 64) % 64 ≡ c % 64 = omega arith in
-    let e : (c / 64) / 64 ≡ c / 4096 = omega arith in
-    let f : (c / 4096) * 64 + (c / 64) % 64 ≡ c / 64 = omega (arith, e) in
-    rw (a, b, d, f) (omega arith)
+three_code c h l = omega arith
 
 goes_on : (n : ℕ) → goes_on_with (128 + n % 64) ≡ true
-goes_on n = rw (le-leb 0x80 (128 + n % 64) (omega arith), le-leb (128 + n % 64) 0xBF (omega arith)) refl
+goes_on n = grind (arith, nat_tests)
 
 -- whitespace has at most three bytes
 wide_is_dark : (c : ℕ) → 65536 ≤ c → is_whitespace c ≡ false
@@ -38,9 +29,7 @@ not_three a b (c ∷ rest) h = rw h refl
 
 two_bytes : (a b c : ℕ) (rest : List ℕ) → 192 ≤ a → a < 224 → goes_on_with b ≡ true → (a % 32) * 64 + b % 64 ≡ c
     → space_len (a ∷ b ∷ rest) ≡ (if is_whitespace c then 2 else 0)
-two_bytes a b c rest l h g e =
-    let first : is_in_range 0xC0 0xDF a ≡ true = grind (arith, nat_tests) in
-    high a (b ∷ rest) (omega arith) ∙ rw (first, g, e, not_three a b rest (grind (arith, nat_tests))) refl
+two_bytes a b c rest l h g e = grind (arith, nat_tests, high, not_three)
 
 three_bytes : (a b c d : ℕ) (rest : List ℕ) → 224 ≤ a → a < 240 → goes_on_with b ≡ true → goes_on_with c ≡ true
     → ((a % 16) * 64 + b % 64) * 64 + c % 64 ≡ d → space_len (a ∷ b ∷ c ∷ rest) ≡ (if is_whitespace d then 3 else 0)
@@ -50,16 +39,12 @@ three_bytes a b c d rest l h g k e =
     high a (b ∷ c ∷ rest) (omega arith) ∙ rw (not_two, first, g, k, e) refl
 
 four_bytes : (a b : ℕ) (rest : List ℕ) → 240 ≤ a → space_len (a ∷ b ∷ rest) ≡ 0
-four_bytes a b rest l =
-    let not_two : is_in_range 0xC0 0xDF a ≡ false = grind (arith, nat_tests) in
-    high a (b ∷ rest) (omega arith) ∙ rw not_two (not_three a b rest (grind (arith, nat_tests)))
+four_bytes a b rest l = grind (arith, nat_tests, high, not_three)
 
 -- a byte inside a character begins none
 pub space_len-inside : (b : ℕ) (rest : List ℕ) → 128 ≤ b → b < 192 → space_len (b ∷ rest) ≡ 0
 space_len-inside b [] l h = high b [] l
-space_len-inside b (c ∷ rest) l h =
-    let not_two : is_in_range 0xC0 0xDF b ≡ false = grind (arith, nat_tests) in
-    high b (c ∷ rest) l ∙ rw not_two (not_three b c rest (grind (arith, nat_tests)))
+space_len-inside b (c ∷ rest) l h = grind (arith, nat_tests, high, not_three)
 
 -- the characters of one byte, of two, of three and of four
 pub front_is_first_character : (c : ℕ) (rest : List ℕ) → space_len (encode_utf8 c ++ rest) ≡ (if is_whitespace c then len_utf8 c else 0)

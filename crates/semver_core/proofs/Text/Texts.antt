@@ -12,7 +12,7 @@ use Rattle.semver_core.proofs.Common.{drop_split, IsCharBoundary-after_ascii, Is
 use Rattle.semver_core.proofs.Common.{drop-drop}
 use Rattle.{semver_core.specs.Internal.Reading.{◌>>?◌, part_at, past, version_at}, std.proofs.lemmas.Str.char_from_byte}
 use Rattle.semver_core.specs.Text.Numbers.{IsTriple}
-use Rattle.semver_core.proofs.Text.Pieces.{some_inside, rest_at, number_sound, number_complete, list_sound, list_complete}
+use Rattle.semver_core.proofs.Text.Pieces.{some_inside, number_sound, number_complete, list_sound, list_complete}
 use Rattle.semver_core.proofs.Text.{Pieces.{list_none, runs_begin}, Runs.drop_next}
 
 pub bind_some : {A B : Type 0} (o : Option A) (f : A → Option B) (y : B) → (o >>? f) ≡ Some y → (x : A) × (o ≡ Some x) × (f x ≡ Some y)
@@ -57,7 +57,7 @@ triple_sound limit text at t e =
       major = major.0;
       minor = minor.0;
       patch = patch.0;
-      divided = major.1 ∙ ap (λ t. major.0 ++ 46 ∷ t) (minor.1 ∙ ap (λ t. minor.0 ++ 46 ∷ t) patch.1);
+      divided = grind (arith, major.1, minor.1, patch.1);
       major_is = major.2;
       minor_is = minor.2;
       patch_is = patch.2;
@@ -85,9 +85,6 @@ triple_none limit text none M m p rest is =
 no_front : (c : ℕ) (s r : List ℕ) → begins (λ b. b == c) (s ++ r) ≡ false → begins (λ b. b == c) s ≡ false
 no_front c s r h = grind arith
 
-no_pre : (t : List ℕ) → begins (λ b. b == 45) t ≡ false → begins is_identifier_char t ≡ false → begins_pre_release t ≡ false
-no_pre t h k = grind arith
-
 -- a list at a place, or none: what is said of either holds of what is found
 list_or_none : (text : List ℕ) (at start : ℕ) (lead : List ℕ) (Is : List ℕ → List ℕ → List Id → Type 0)
     → drop at text ≡ lead ++ drop start text
@@ -112,11 +109,8 @@ pre_sound text at = elim (cases_Bool (begins (λ b. b == 45) (drop at text))) [
   | inr plain ↦
       rw plain (list_or_none text at at [] IsPreRelease refl
       (λ s r ids e l. bare s r ids l (no_front 45 s r (rw e at plain)))
-      (λ none. no_pre_release (drop at text) (no_pre (drop at text) plain none)))
+      (λ none. no_pre_release (drop at text) (grind arith)))
 ]
-
-no_plus : (t : List ℕ) → begins (λ b. b == 43) t ≡ false → begins_build t ≡ false
-no_plus t h = grind arith
 
 -- nothing stands there
 pub none_pre : (text : List ℕ) (at : ℕ) (r : List ℕ) → drop at text ≡ r → begins_pre_release r ≡ false → pre_release_at text at ≡ ([], at)
@@ -127,9 +121,6 @@ pub none_build : (text : List ℕ) (at : ℕ) (r : List ℕ) → drop at text �
 none_build text at [] e none = rw e refl
 none_build text at (c ∷ r) e none = grind (arith, drop_next at text r c e)
 
-no_dash : (s r : List ℕ) → begins is_identifier_char (s ++ []) ≡ true → begins (λ b. b == 45) s ≡ false → begins (λ b. b == 45) (s ++ r) ≡ false
-no_dash s r h k = grind arith
-
 build_sound : (text : List ℕ) (at : ℕ)
     → IsPieceAt (λ piece rest. IsBuild piece rest (build_at text at).0) text at (build_at text at).1
 build_sound text at = elim (cases_Bool (begins (λ b. b == 43) (drop at text))) [
@@ -137,29 +128,28 @@ build_sound text at = elim (cases_Bool (begins (λ b. b == 43) (drop at text))) 
       let front = marked 43 text at mark in
       rw mark (list_or_none text at (at + 1) (43 ∷ []) IsBuild front
       (λ s r ids e l. plus s r ids l) (λ none. no_build (drop at text) (rw front none)))
-  | inr plain ↦ rw plain (record { piece = []; divided = refl; is = no_build (drop at text) (no_plus (drop at text) plain) })
+  | inr plain ↦ rw plain (record { piece = []; divided = refl; is = no_build (drop at text) (grind arith) })
 ]
 
 pub pre_complete : (text : List ℕ) (at : ℕ) (piece rest : List ℕ) (ids : List Id) → drop at text ≡ piece ++ rest → IsPreRelease piece rest ids
     → (pre_release_at text at ≡ (ids, at + length piece)) × (drop (at + length piece) text ≡ rest)
 pre_complete text at piece rest ids e (dashed s r l long) =
-    let next = drop_next at text (s ++ r) 45 e in
-    let found = list_complete text (at + 1) s r l next long in
+    let found = list_complete text (at + 1) s r l (drop_next at text (s ++ r) 45 e) long in
     let sum : at + 1 + length s ≡ at + length (45 ∷ s) = omega arith in
-    (rw (e, found.0, sum) refl, rest_at text at (at + length (45 ∷ s)) (45 ∷ s) r e refl)
+    (rw (e, found.0, sum) refl, rw sum at found.1)
 pre_complete text at piece rest ids e (bare s r l long plain) =
     let found = list_complete text at s r l e long in
-    let front : begins (λ b. b == 45) (s ++ r) ≡ false = no_dash s r (runs_begin s [] long.identifiers.runs) plain in
+    let begun = runs_begin s [] long.identifiers.runs in
+    let front : begins (λ b. b == 45) (s ++ r) ≡ false = grind arith in
     (rw (e, front, found.0) refl, found.1)
 pre_complete text at piece rest ids e (no_pre_release r none) = (rw add-zero (none_pre text at r e none), rw add-zero e)
 
 pub build_complete : (text : List ℕ) (at : ℕ) (piece rest : List ℕ) (ids : List Id) → drop at text ≡ piece ++ rest → IsBuild piece rest ids
     → (build_at text at ≡ (ids, at + length piece)) × (drop (at + length piece) text ≡ rest)
 build_complete text at piece rest ids e (plus s r l long) =
-    let next = drop_next at text (s ++ r) 43 e in
-    let found = list_complete text (at + 1) s r l next long in
+    let found = list_complete text (at + 1) s r l (drop_next at text (s ++ r) 43 e) long in
     let sum : at + 1 + length s ≡ at + length (43 ∷ s) = omega arith in
-    (rw (e, found.0, sum) refl, rest_at text at (at + length (43 ∷ s)) (43 ∷ s) r e refl)
+    (rw (e, found.0, sum) refl, rw sum at found.1)
 build_complete text at piece rest ids e (no_build r none) = (rw add-zero (none_build text at r e none), rw add-zero e)
 
 -- a division of a text, with this mark, this whitespace and this rest

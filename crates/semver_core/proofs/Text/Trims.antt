@@ -1,13 +1,13 @@
 -- Serves proofs. The text without the whitespace round it, by bytes and by characters.
 use Rattle.semver_core.proofs.Common.{is_empty, BeginsBlank, IsAfterBlank, begins, is_whitespace, List, [], ap, append-nil}
 use Rattle.semver_core.proofs.Common.{append_assoc, arith, drop, false, inl, inr, length, refl, subst, sym, take, true, ℕ, ◌++◌}
-use Rattle.semver_core.proofs.Common.{◌+◌, ◌-◌, ◌<◌, ◌∙◌, ◌∷◌, ◌≡◌, ◌≤◌, and_parts, cases_Bool, cases_lt, lt-ltb, length-drop}
-use Rattle.semver_core.proofs.Common.{len_utf8, encode_utf8, list_all, IsCharBoundary, IsUtf8, encode_utf8_all, ⊤, after_spaces}
-use Rattle.semver_core.proofs.Common.{drop_end_spaces, drop_spaces, space_len, trim, ◌%◌, ◌/◌, take-append_seam, le-ltb, drop_at}
-use Rattle.semver_core.proofs.Common.{drop_split, list_all-append, IsUtf8-drop, encode_ascii, encodes-append, len_utf8_bounds}
+use Rattle.semver_core.proofs.Common.{◌+◌, ◌-◌, ◌<◌, ◌∙◌, ◌∷◌, ◌≡◌, ◌≤◌, and_parts, cases_Bool, length-drop, len_utf8}
+use Rattle.semver_core.proofs.Common.{encode_utf8, list_all, IsCharBoundary, IsUtf8, encode_utf8_all, after_spaces}
+use Rattle.semver_core.proofs.Common.{drop_end_spaces, drop_spaces, space_len, trim, take-append_seam, drop_at, drop_split}
+use Rattle.semver_core.proofs.Common.{list_all-append, IsUtf8-drop, encode_ascii, encodes-append, len_utf8_bounds}
 use Rattle.semver_core.proofs.Common.{length-encode, IsTrim, and_from, reverse-append, length-reverse, IsCharBoundary-at_seam}
-use Rattle.semver_core.proofs.Common.{IsUtf8-encode, IsUtf8-take, IsScalar, reverse, get_or, nat_tests, drop-cons, drop_all, suc}
-use Rattle.semver_core.proofs.Common.{take-append-drop, ◌==◌}
+use Rattle.semver_core.proofs.Common.{IsUtf8-encode, IsUtf8-take, IsScalar, reverse, get_or, nat_tests, drop-cons, drop_all}
+use Rattle.semver_core.proofs.Common.{suc, take-append-drop, ◌==◌}
 use Rattle.{std.proofs.lemmas.Str.{IsCharBoundary-before_ascii}, std.specs.Char.{is_ascii_graphic}}
 use Rattle.semver_core.proofs.Text.{Blanks.{Passed, passed_none, passed_more, passed_stop, passed_end}, SpaceLaw.space_len-white}
 use Rattle.semver_core.proofs.Text.{SpaceLaw.{space_len-dark, space_len-inside}, Spaces.{drop_spaces-more, drop_spaces-none}}
@@ -43,58 +43,15 @@ pub keep_byte : (b : ℕ) (rest : List ℕ) → is_empty (drop_spaces (b ∷ res
 unfolding drop_end_spaces
 keep_byte b rest h = rw (h, drop_end_spaces) refl
 
--- bytes that go on with a character, and a character as its first byte and these
-Inside : List ℕ → Type 0
-Inside [] = ⊤
-Inside (b ∷ rest) = (128 ≤ b) × (b < 192) × Inside rest
-
-record Encoded (c : ℕ) : Type 0 where
-  first : ℕ
-  tail : List ℕ
-  spelled : encode_utf8 c ≡ first ∷ tail
-  inside : Inside tail
-
-encoded : (c : ℕ) → Encoded c
-unfolding encode_utf8 Inside
-encoded c = elim (cases_lt c 128) [
-  | inl one ↦ record { first = c; tail = []; spelled = encode_ascii c one; inside = tt }
-  | inr more ↦ elim (cases_lt c 2048) [
-    | inl two ↦ record {
-      first = 192 + c / 64;
-      tail = (128 + c % 64) ∷ [];
-      spelled = rw (le-ltb c 128 more, lt-ltb c 2048 two) refl;
-      inside = (omega arith, omega arith, tt);
-    }
-    | inr wide ↦ elim (cases_lt c 65536) [
-      | inl three ↦ record {
-        first = 224 + c / 4096;
-        tail = (128 + (c / 64) % 64) ∷ (128 + c % 64) ∷ [];
-        spelled = rw (le-ltb c 128 more, le-ltb c 2048 wide, lt-ltb c 65536 three) refl;
-        inside = (omega arith, omega arith, (omega arith, omega arith, tt));
-      }
-      | inr four ↦ record {
-        first = 240 + c / 262144;
-        tail = (128 + (c / 4096) % 64) ∷ (128 + (c / 64) % 64) ∷ (128 + c % 64) ∷ [];
-        spelled = rw (le-ltb c 128 more, le-ltb c 2048 wide, le-ltb c 65536 four) refl;
-        inside = (omega arith, omega arith, (omega arith, omega arith, (omega arith, omega arith, tt)));
-      }
-    ]
-  ]
-]
-
-keep_inside : (bs rest : List ℕ) → Inside bs → drop_end_spaces (bs ++ rest) ≡ bs ++ drop_end_spaces rest
-unfolding Inside
-keep_inside [] rest h = refl
-keep_inside (b ∷ bs) rest h =
-    keep_byte b (bs ++ rest) (ap is_empty (drop_spaces-none (b ∷ (bs ++ rest)) (space_len-inside b (bs ++ rest) h.0 h.1)))
-    ∙ ap (λ t. b ∷ t) (keep_inside bs rest h.2)
+-- a byte that goes on with a character
+keep_inside : (b : ℕ) (rest : List ℕ) → 128 ≤ b → b < 192 → drop_end_spaces (b ∷ rest) ≡ b ∷ drop_end_spaces rest
+keep_inside b rest l h = keep_byte b rest (ap is_empty (drop_spaces-none (b ∷ rest) (space_len-inside b rest l h)))
 
 -- a character stays where more than whitespace is left
 keep_char : (c : ℕ) (rest : List ℕ) → is_empty (drop_spaces (encode_utf8 c ++ rest)) ≡ false
     → drop_end_spaces (encode_utf8 c ++ rest) ≡ encode_utf8 c ++ drop_end_spaces rest
-keep_char c xs h =
-    let e = encoded c in
-    rw e.spelled (keep_byte e.first (e.tail ++ xs) (rw e.spelled at h) ∙ ap (λ t. e.first ∷ t) (keep_inside e.tail xs e.inside))
+unfolding encode_utf8
+keep_char c rest h = grind (arith, nat_tests, keep_byte, keep_inside)
 
 drop_end-all : (text : List ℕ) → drop_spaces text ≡ [] → drop_end_spaces text ≡ []
 unfolding drop_end_spaces
@@ -109,27 +66,18 @@ drop_end-blank cs h =
 -- the last character of a list, behind a front
 
 ends_front : (c d : ℕ) (cs : List ℕ) → begins is_whitespace (reverse (c ∷ d ∷ cs)) ≡ begins is_whitespace (reverse (d ∷ cs))
-ends_front c d cs = rw (reverse-append (c ∷ []) (d ∷ cs)) (go (reverse (d ∷ cs)) (length-reverse (d ∷ cs)))
-  where
-    go : (xs : List ℕ) → length xs ≡ length (d ∷ cs) → begins is_whitespace (xs ++ (c ∷ [])) ≡ begins is_whitespace xs
-    go [] e = absurd (omega arith)
-    go (x ∷ xs) e = refl
+ends_front c d cs = grind (arith, reverse-append (c ∷ []) (d ∷ cs), length-reverse (d ∷ cs))
 
 -- where a text has another character than whitespace, more than whitespace is left
 filled : (c : ℕ) (rest : List ℕ) → is_empty (encode_utf8 c ++ rest) ≡ false
-filled c rest = go (encode_utf8 c) (omega (arith, length-encode c, (len_utf8_bounds c).0))
-  where
-    go : (xs : List ℕ) → 0 < length xs → is_empty (xs ++ rest) ≡ false
-    go [] h = absurd (omega arith)
-    go (x ∷ xs) h = refl
+unfolding encode_utf8
+filled c rest = grind (arith, nat_tests)
 
 some_dark : (c : ℕ) (cs after : List ℕ) → begins is_whitespace (reverse (c ∷ cs)) ≡ false
     → is_empty (drop_spaces (encode_utf8_all ((c ∷ cs) ++ after))) ≡ false
-some_dark c [] after dark = ap is_empty (drop_spaces-dark c (encode_utf8_all after) dark) ∙ filled c (encode_utf8_all after)
-some_dark c (d ∷ cs) after h = elim (cases_Bool (is_whitespace c)) [
-  | inl white ↦ ap is_empty (drop_spaces-white c (encode_utf8_all ((d ∷ cs) ++ after)) white) ∙ some_dark d cs after (sym (ends_front c d cs) ∙ h)
-  | inr dark ↦ ap is_empty (drop_spaces-dark c (encode_utf8_all ((d ∷ cs) ++ after)) dark) ∙ filled c (encode_utf8_all ((d ∷ cs) ++ after))
-]
+some_dark c [] after dark = grind (arith, drop_spaces-dark, filled)
+some_dark c (d ∷ cs) after h =
+    grind (arith, append_assoc, drop_spaces-dark, drop_spaces-white, ends_front c d cs, filled, some_dark d cs after)
 
 -- what stands before the whitespace at the end
 pub drop_end-dark : (cs after : List ℕ) → begins is_whitespace (reverse cs) ≡ false → list_all is_whitespace after ≡ true
@@ -155,14 +103,11 @@ trim_parts before characters after front back begin end =
   where
     go : (cs : List ℕ) → begins is_whitespace cs ≡ false → begins is_whitespace (reverse cs) ≡ false
         → drop_end_spaces (drop_spaces (encode_utf8_all (cs ++ after))) ≡ encode_utf8_all cs
-    go [] begin end = ap drop_end_spaces (ap drop_spaces (sym (append-nil (encode_utf8_all after))) ∙ drop_spaces-blank after [] back ∙ drop_spaces-nil) ∙ drop_end-all [] drop_spaces-nil
-    go (c ∷ cs) begin end = ap drop_end_spaces (drop_spaces-dark c (encode_utf8_all (cs ++ after)) begin) ∙ drop_end-dark (c ∷ cs) after end back
+    go [] begin end = grind (arith, append-nil, drop_spaces-blank after [] back, drop_spaces-nil, drop_end-all)
+    go (c ∷ cs) begin end = grind (arith, append_assoc, drop_spaces-dark, drop_end-dark (c ∷ cs) after)
 
 pub middle_is_trim : (text middle : List ℕ) → IsTrim text middle → middle ≡ trim text
-middle_is_trim text middle t =
-    t.middle_is
-    ∙ sym (trim_parts t.before t.characters t.after t.blank_before t.blank_after t.begins_dark t.ends_dark)
-    ∙ ap trim (sym t.divided)
+middle_is_trim text middle t = grind (arith, trim_parts t.before t.characters t.after)
 
 -- characters divided into whitespace and what begins with another character
 pub record Fronted (cs : List ℕ) : Type 0 where
@@ -177,8 +122,7 @@ fronted [] = record { before = []; rest = []; divided = refl; blank = refl; dark
 fronted (c ∷ cs) = elim (cases_Bool (is_whitespace c)) [
   | inl white ↦
       let f = fronted cs in
-      let blank = and_from (is_whitespace c) (list_all is_whitespace f.before) white f.blank in
-      record { before = c ∷ f.before; rest = f.rest; divided = ap (λ t. c ∷ t) f.divided; blank = blank; dark = f.dark }
+      record { before = c ∷ f.before; rest = f.rest; divided = grind (arith, f.divided); blank = grind (arith, f.blank); dark = f.dark }
   | inr dark ↦ record { before = []; rest = c ∷ cs; divided = refl; blank = refl; dark = dark }
 ]
 
@@ -206,8 +150,7 @@ ended (c ∷ cs) = let e = ended cs in go e.after e.blank e.rest e.divided e.dar
         record { rest = c ∷ d ∷ xs; after = after; divided = ap (λ t. c ∷ t) e; blank = blank; dark = ends_front c d xs ∙ dark }
 
 begins_front : (cs after : List ℕ) → begins is_whitespace (cs ++ after) ≡ false → begins is_whitespace cs ≡ false
-begins_front [] after h = refl
-begins_front (c ∷ cs) after h = h
+begins_front cs after h = grind arith
 
 pub IsTrim_exists : (cs : List ℕ) → (middle : List ℕ) × IsTrim (encode_utf8_all cs) middle
 IsTrim_exists cs =
@@ -242,7 +185,7 @@ dark_here text utf8 dark = go utf8.0 utf8.1.1
     go [] e = ap drop_spaces (sym e) ∙ drop_spaces-nil ∙ e
     go (c ∷ cs) e = elim (cases_Bool (is_whitespace c)) [
       | inl white ↦ absurd (dark (record { character = c; rest = encode_utf8_all cs; passes = white; spelled = sym e }))
-      | inr other ↦ ap drop_spaces (sym e) ∙ drop_spaces-dark c (encode_utf8_all cs) other ∙ e
+      | inr other ↦ grind (arith, drop_spaces-dark)
     ]
 
 pub after_blank_drops_spaces : (text : List ℕ) (at end : ℕ) → IsUtf8 text → IsAfterBlank text at end → drop end text ≡ drop_spaces (drop at text)
@@ -283,26 +226,17 @@ pub drop_end-more : (text before : List ℕ) (c : ℕ) → IsUtf8 before → tex
 drop_end-more text before c utf8 e white =
     let d = ended utf8.0 in
     let back : list_all is_whitespace (d.after ++ (c ∷ [])) ≡ true = rw (list_all-append, d.blank, white) refl in
-    let short : before ≡ encode_utf8_all (d.rest ++ d.after) = sym utf8.1.1 ∙ ap encode_utf8_all d.divided in
-    ap drop_end_spaces short
-    ∙ drop_end-dark d.rest d.after d.dark d.blank
-    ∙ sym (drop_end-dark d.rest (d.after ++ (c ∷ [])) d.dark back)
-    ∙ ap drop_end_spaces (ap encode_utf8_all (sym (append_assoc d.rest d.after (c ∷ [])))
-    ∙ encodes-append (d.rest ++ d.after) (c ∷ [])
-    ∙ ap (λ t. encode_utf8_all (d.rest ++ d.after) ++ t) (append-nil (encode_utf8 c))
-    ∙ ap (λ t. t ++ encode_utf8 c) (sym short)
-    ∙ sym e)
+    let one = drop_end-dark d.rest d.after d.dark d.blank in
+    let two = drop_end-dark d.rest (d.after ++ (c ∷ [])) d.dark back in
+    grind (arith, append_assoc, append-nil, encodes-append)
 
 -- another character there
 pub drop_end-stop : (text before : List ℕ) (c : ℕ) → IsUtf8 before → text ≡ before ++ encode_utf8 c → is_whitespace c ≡ false
     → drop_end_spaces text ≡ text
 drop_end-stop text before c utf8 e dark =
-    let whole : text ≡ encode_utf8_all (utf8.0 ++ (c ∷ [])) =
-    e ∙ ap (λ t. t ++ encode_utf8 c) (sym utf8.1.1) ∙ ap (λ t. encode_utf8_all utf8.0 ++ t) (sym (append-nil (encode_utf8 c))) ∙ sym (encodes-append utf8.0 (c ∷ [])) in
     let last : begins is_whitespace (reverse (utf8.0 ++ (c ∷ []))) ≡ false = rw (reverse-append utf8.0 (c ∷ [])) dark in
-    ap drop_end_spaces (whole ∙ ap encode_utf8_all (sym (append-nil (utf8.0 ++ (c ∷ [])))))
-    ∙ drop_end-dark (utf8.0 ++ (c ∷ [])) [] last refl
-    ∙ sym whole
+    let kept = drop_end-dark (utf8.0 ++ (c ∷ [])) [] last refl in
+    grind (arith, append-nil, encodes-append)
 
 -- nothing is there
 pub drop_end-none : (text : List ℕ) → length text ≡ 0 → drop_end_spaces text ≡ text
