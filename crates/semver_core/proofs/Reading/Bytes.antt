@@ -8,7 +8,7 @@ use Rattle.semver_core.specs.Text.Characters.{IsTrim, begins, ends, is_whitespac
 use Rattle.std.proofs.Common.{[], Bool, List, None, ap, append-nil, arith, encode_utf8_all, false, length, nat_lt, not, refl, true, ℕ, ◌&&◌, ◌++◌, ◌<◌}
 use Rattle.std.proofs.Common.{◌||◌, ◌∙◌, ◌∷◌, ◌≡◌}
 use Rattle.std.proofs.lemmas.Bool.Decides.{nat_tests}
-use Rattle.std.proofs.lemmas.Bool.{and_from, and_parts, and_right}
+use Rattle.std.proofs.lemmas.Bool.{and_from, and_right}
 use Rattle.std.proofs.lemmas.List.Folds.{list_all-append}
 use Rattle.std.specs.Char.{is_ascii_digit}
 use Rattle.std.specs.List.{list_all}
@@ -27,14 +27,13 @@ ends-some p (b ∷ u) h = omega arith
 -- a text ends as its last piece does
 pub ends-append : (p : ℕ → Bool) (u v : List ℕ) → 0 < length v → ends p (u ++ v) ≡ ends p v
 ends-append p [] v h = refl
-ends-append p (b ∷ []) [] h = absurd (omega arith)
-ends-append p (b ∷ []) (c ∷ v) h = refl
+ends-append p (b ∷ []) v h = grind arith
 ends-append p (b ∷ c ∷ u) v h = ends-append p (c ∷ u) v h
 
 pub all-end : (p : ℕ → Bool) (u : List ℕ) → 0 < length u → list_all p u ≡ true → ends p u ≡ true
 all-end p [] some h = absurd (omega arith)
-all-end p (b ∷ []) some h = (and_parts (p b) true h).0
-all-end p (b ∷ c ∷ u) some h = all-end p (c ∷ u) (omega arith) (and_parts (p b) (list_all p (c ∷ u)) h).1
+all-end p (b ∷ []) some h = grind arith
+all-end p (b ∷ c ∷ u) some h = grind (arith, all-end p (c ∷ u))
 
 pub all-join : (p : ℕ → Bool) (u v : List ℕ) → list_all p u ≡ true → list_all p v ≡ true → list_all p (u ++ v) ≡ true
 all-join p u v h k = list_all-append p u v ∙ and_from (list_all p u) (list_all p v) h k

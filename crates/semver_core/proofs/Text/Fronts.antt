@@ -1,6 +1,6 @@
 -- The version that a text begins with is that of the text up to the place behind it.
 use Rattle.semver_core.proofs.Common.{qualified, triple_at, begins, Id, IsLongestIdentifiers, goes_on, pieces, IsNumber}
-use Rattle.semver_core.proofs.Common.{IsWholeNumber, begins_pre_release, no_mark, VersionValue, Bool, List, None, Some, [], ap}
+use Rattle.semver_core.proofs.Common.{IsWholeNumber, begins_pre_release, no_mark, VersionValue, List, None, Some, [], ap}
 use Rattle.semver_core.proofs.Common.{append-nil, append_assoc, arith, drop, false, length, refl, subst, sym, take, true, ℕ}
 use Rattle.semver_core.proofs.Common.{◌++◌, ◌∙◌, ◌∷◌, ◌≡◌, ◌≤◌, nat_tests, take-append-drop, is_ascii_digit, list_all}
 use Rattle.semver_core.proofs.Common.{list_all-append, small_len, lists_at, IsCommon, IsBuild, IsMark, IsPreRelease, bare}
@@ -9,7 +9,7 @@ use Rattle.semver_core.proofs.Common.{is_identifier_char, Reads, Option, ◌<◌
 use Rattle.semver_core.proofs.Common.{HasOneReading, mark_len, begins_build, release_value, IfSome, IfNone, get_or}
 use Rattle.semver_core.specs.{Internal.CommonReading.{is_plain, at_end, whole_at}, Text.Common.IsCommonFront}
 use Rattle.{std.proofs.lemmas.List.append_cancel_right, semver_core.proofs.Text.Listed.plain_runs}
-use Rattle.semver_core.proofs.Text.{Pieces.runs_tail, Runs.all_more, Texts.{divided_at, number_begins, read_at}}
+use Rattle.semver_core.proofs.Text.{Pieces.runs_tail, Runs.{all_more, begins_less}, Texts.{divided_at, number_begins, read_at}}
 use Rattle.semver_core.proofs.Text.Texts.{rest_of, bind_some, none_build, loose_none, loose_some, none_pre}
 
 -- ---- The fast reader's answer is the common text's version.
@@ -24,15 +24,22 @@ small_is (c ∷ rest) = grind (arith, nat_tests, no_mark, small_mark)
 pub nothing_blank : IsBlank []
 nothing_blank = record { characters = []; each = refl; spelled = refl }
 
+-- numbers behind `v` or nothing divide the text
+front_divided : (limit : ℕ) (text : List ℕ) (t : ℕ × ℕ × ℕ × ℕ) → triple_at limit text (small_len text) ≡ Some t
+    → (r : Reads limit text (qualified text t)) × (r.mark ≡ 86 ∷ [] → ⊥) × (r.blank ≡ []) × (r.rest ≡ rest_of text t)
+front_divided limit text t e =
+    let k = small_len text in
+    let mark = small_is text in
+    let d = divided_at limit text (take k text) [] k t (sym (take-append-drop k text)) mark.0 nothing_blank e in
+    (d.reads, λ capital. mark.1 (sym d.mark_is ∙ capital), d.blank_is, d.rest_is)
+
 -- what is found is a common text's version
 pub common_sound : (limit : ℕ) (text : List ℕ) (v : VersionValue) → common_of limit text ≡ Some v → IsCommon limit text v
 common_sound limit text v e =
-    let k = small_len text in
-    let found = bind_some (triple_at limit text k) _ v e in
+    let found = bind_some (triple_at limit text (small_len text)) _ v e in
     let ended = at_end_some (rest_of text found.0) (qualified text found.0) v found.2 in
-    let mark = small_is text in
-    let d = divided_at limit text (take k text) [] k found.0 (sym (take-append-drop k text)) mark.0 nothing_blank found.1 in
-    rw (← ended.1) (d.reads, λ capital. mark.1 (sym d.mark_is ∙ capital), d.blank_is, d.rest_is ∙ ended.0)
+    let d = front_divided limit text found.0 found.1 in
+    rw (← ended.1) (d.0, d.1, d.2, d.3 ∙ ended.0)
 
 no_small : (D : List ℕ) → begins is_ascii_digit D ≡ true → small_len D ≡ 0
 no_small D h = grind (arith, nat_tests)
@@ -88,9 +95,7 @@ lists_left text major minor patch at end pre build e lt =
 
 -- numbers at the front, with the lists behind them, are a version of the text
 pub front_read : (limit : ℕ) (text : List ℕ) (t : ℕ × ℕ × ℕ × ℕ) → Some t ≡ triple_at limit text (small_len text) → Reads limit text (qualified text t)
-front_read limit text t e =
-    let k = small_len text in
-    (divided_at limit text (take k text) [] k t (sym (take-append-drop k text)) (small_is text).0 nothing_blank (sym e)).reads
+front_read limit text t e = (front_divided limit text t (sym e)).0
 
 pub loose_read : (limit : ℕ) (text : List ℕ) (start : ℕ) (o : Option (ℕ × ℕ × ℕ × ℕ)) → IsAfterBlank text (mark_len text) start
     → o ≡ triple_at limit text start → IfSome o (λ t. Reads limit text (qualified text t))
@@ -152,9 +157,6 @@ pub keeps_version : (text : List ℕ) → HasOneReading text → (small large : 
 keeps_version text one small large v w le h k = one large w v k (keeps_reading text small large v le h)
 
 -- ---- a text without what follows it
-
-begins_less : (test : ℕ → Bool) (a r : List ℕ) → begins test (a ++ r) ≡ false → begins test a ≡ false
-begins_less test a r h = grind arith
 
 goes_less : (a r : List ℕ) → goes_on (a ++ r) ≡ false → goes_on a ≡ false
 goes_less a r h = grind arith
@@ -220,13 +222,11 @@ pub front_found : (limit : ℕ) (text : List ℕ) (major minor patch at : ℕ) (
     → IsCommonFront limit text v end
 front_found limit text major minor patch at pre build end v e lists is inside =
     let t : ℕ × ℕ × ℕ × ℕ = (major, minor, patch, at) in
-    let k = small_len text in
-    let mark = small_is text in
-    let d = divided_at limit text (take k text) [] k t (sym (take-append-drop k text)) mark.0 nothing_blank (sym e) in
+    let d = front_divided limit text t (sym e) in
     let same : v ≡ qualified text t =
     is ∙ ap (λ (l : List Id × List Id × ℕ). record { major = major; minor = minor; patch = patch; pre_release = l.0; build = l.1 }) lists in
-    let place : end ≡ (lists_at text at).2 = ap (λ (l : List Id × List Id × ℕ). l.2) lists in
-    rw same (d.reads, λ capital. mark.1 (sym d.mark_is ∙ capital), d.blank_is, d.rest_is ∙ ap (λ n. drop n text) (sym place), inside)
+    let rest : drop end text ≡ rest_of text t = ap (λ (l : List Id × List Id × ℕ). drop l.2 text) lists in
+    rw same (d.0, d.1, d.2, d.3 ∙ sym rest, inside)
 
 pub front_not : (limit : ℕ) (text : List ℕ) → None ≡ triple_at limit text (small_len text) → (v : VersionValue) (end : ℕ)
     → IsCommonFront limit text v end → ⊥

@@ -2,7 +2,7 @@
 use Rattle.semver_core.proofs.Common.{list_at, begins, is_identifier_char, Id, IsLongestIdentifiers, identifier_of}
 use Rattle.semver_core.proofs.Common.{is_identifier, pieces, is_listed, listed, id_view, ids_view, Identifier, List, Some, []}
 use Rattle.semver_core.proofs.Common.{ap, append-nil, arith, false, length, refl, sym, take, true, ℕ, ◌+◌, ◌<◌, ◌≤◌, ◌∙◌, ◌∷◌}
-use Rattle.semver_core.proofs.Common.{◌≡◌, eqb-true, list_all, IsUtf8, ◌==◌, length-map, length-slice_split, IsUtf8-from_ascii}
+use Rattle.semver_core.proofs.Common.{◌≡◌, list_all, IsUtf8, ◌==◌, length-map, length-slice_split, IsUtf8-from_ascii}
 use Rattle.semver_core.proofs.Common.{IsAscii-cons, IsAscii-nil, IsAscii, Numeric, IsId, Bool, subst, nat_tests, and_parts}
 use Rattle.semver_core.proofs.Common.{digit_value, is_ascii_digit, All, map, All-cons, All-nil, join_with_byte}
 use Rattle.semver_core.proofs.Common.{digits_value_after, if◌then◌else◌, zero-add}
@@ -92,9 +92,7 @@ zeros_whole (c ∷ rest) h = grind (arith, nat_tests, zeros_whole rest)
 zeros_value : (text : List ℕ) → list_all is_zero text ≡ true
     → (digits_value_after 10 0 text ≡ 0) × (list_all is_ascii_digit text ≡ true)
 zeros_value [] h = (refl, refl)
-zeros_value (c ∷ rest) h =
-    let both = and_parts (is_zero c) (list_all is_zero rest) h in
-    rw (eqb-true c 48 both.0) (zeros_value rest both.1)
+zeros_value (c ∷ rest) h = grind (arith, nat_tests, zeros_value rest)
 
 pub zeros_listed : (text : List ℕ) → 0 < length text → list_all is_zero text ≡ true → listed text ≡ Numeric 0 ∷ []
 unfolding listed

@@ -26,6 +26,10 @@ of_digits run d small =
     let fits : ltb (digits_value 10 run) (2 ^ 64) ≡ true = grind (arith, nat_tests) in
     rw (d, fits) refl
 
+-- a front does not begin so where the whole does not
+pub begins_less : (test : ℕ → Bool) (a r : List ℕ) → begins test (a ++ r) ≡ false → begins test a ≡ false
+begins_less test a r h = grind arith
+
 -- one more element at the front
 pub take_one : (n c : ℕ) (rest : List ℕ) → take (1 + n) (c ∷ rest) ≡ c ∷ take n rest
 take_one n c rest = rw (add_comm 1 n, add-one n) refl
@@ -59,9 +63,8 @@ list_len_stop [] h = refl
 list_len_stop (c ∷ rest) h = rw h refl
 
 -- what goes on after a run goes on with a dot
-dot_after : (t : List ℕ) → begins is_identifier_char t ≡ false → goes_on t ≡ true → (rest : List ℕ) × (t ≡ 46 ∷ rest) × (begins is_identifier_char rest ≡ true)
-dot_after [] n h = cc
-dot_after (c ∷ rest) n h = (rest, grind (arith, nat_tests), grind (arith, nat_tests))
+dot_after : (t : List ℕ) → begins is_identifier_char t ≡ false → goes_on t ≡ true → (t ≡ 46 ∷ drop 1 t) × (begins is_identifier_char (drop 1 t) ≡ true)
+dot_after t n h = (grind (arith, nat_tests), grind (arith, nat_tests))
 
 list_len_dot : (rest : List ℕ) → begins is_identifier_char rest ≡ true → list_len (46 ∷ rest) ≡ 1 + list_len rest
 unfolding list_len
@@ -84,15 +87,6 @@ list_stop t h =
 pub drop_next : (n : ℕ) (t rest : List ℕ) (c : ℕ) → drop n t ≡ c ∷ rest → drop (n + 1) t ≡ rest
 drop_next n t rest c e = rw (← drop-drop 1 n t, e) refl
 
-list_next_at : (t rest : List ℕ) (n : ℕ) → prefix_len is_identifier_char t ≡ n → drop n t ≡ 46 ∷ rest → begins is_identifier_char rest ≡ true
-    → (list_of t ≡ identifier_of (take n t) ∷ list_of rest) × (list_len t ≡ n + 1 + list_len rest)
-list_next_at t rest n is dot more =
-    let whole : list_len t ≡ n + list_len (drop n t) = rw is at (list_len_run t) in
-    let len : list_len t ≡ n + (1 + list_len rest) = rw (dot, list_len_dot rest more) at whole in
-    let text : take (list_len t) t ≡ take n t ++ 46 ∷ take (list_len rest) rest =
-    rw (len, take-add n (1 + list_len rest) t, dot, add_comm 1 (list_len rest), add-one (list_len rest)) refl in
-    (rw text (ap (map identifier_of) (slice_split_at (λ c. c == 46) (take n t) 46 (take (list_len rest) rest) (rw is at (run_no_dot t)) refl)), rw len (omega arith))
-
 -- the list is a run, a dot and a list
 pub list_next : (t : List ℕ) → goes_on (drop (prefix_len is_identifier_char t) t) ≡ true
     → (list_of t ≡ identifier_of (take (prefix_len is_identifier_char t) t) ∷ list_of (drop (prefix_len is_identifier_char t + 1) t))
@@ -100,10 +94,15 @@ pub list_next : (t : List ℕ) → goes_on (drop (prefix_len is_identifier_char 
     × (begins is_identifier_char (drop (prefix_len is_identifier_char t + 1) t) ≡ true)
 list_next t h =
     let n = prefix_len is_identifier_char t in
-    let dot = dot_after (drop n t) (prefix_ends is_identifier_char t) h in
-    let next : drop (n + 1) t ≡ dot.0 = drop_next n t dot.0 46 dot.1 in
-    let facts = list_next_at t dot.0 n refl dot.1 dot.2 in
-    (rw next facts.0, rw next facts.1, rw next dot.2)
+    let rest = drop (n + 1) t in
+    let after = dot_after (drop n t) (prefix_ends is_identifier_char t) h in
+    let dot : drop n t ≡ 46 ∷ rest = after.0 ∙ ap (λ l. 46 ∷ l) (drop-drop 1 n t) in
+    let more : begins is_identifier_char rest ≡ true = rw drop-drop at after.1 in
+    let len : list_len t ≡ n + (1 + list_len rest) = rw (dot, list_len_dot rest more) at (list_len_run t) in
+    let taken : take (list_len t) t ≡ take n t ++ 46 ∷ take (list_len rest) rest =
+    rw (len, take-add n (1 + list_len rest) t, dot, take_one) refl in
+    let split = slice_split_at (λ c. c == 46) (take n t) 46 (take (list_len rest) rest) (run_no_dot t) refl in
+    (rw taken (ap (map identifier_of) split), rw len (omega arith), more)
 
 prefix_some : (t : List ℕ) → begins is_identifier_char t ≡ true → 0 < prefix_len is_identifier_char t
 prefix_some t h = grind arith

@@ -13,7 +13,7 @@ use Rattle.semver_core.proofs.Common.{drop-drop}
 use Rattle.{semver_core.specs.Internal.Reading.{◌>>?◌, part_at, past, version_at}, std.proofs.lemmas.Str.char_from_byte}
 use Rattle.semver_core.specs.Text.Numbers.{IsTriple}
 use Rattle.semver_core.proofs.Text.Pieces.{some_inside, number_sound, number_complete, list_sound, list_complete}
-use Rattle.semver_core.proofs.Text.{Pieces.{list_none, runs_begin}, Runs.drop_next}
+use Rattle.semver_core.proofs.Text.{Pieces.{list_none, runs_begin}, Runs.{begins_less, drop_next}}
 
 pub bind_some : {A B : Type 0} (o : Option A) (f : A → Option B) (y : B) → (o >>? f) ≡ Some y → (x : A) × (o ≡ Some x) × (f x ≡ Some y)
 bind_some None f y e = cc
@@ -82,9 +82,6 @@ triple_none limit text none M m p rest is =
     let found = triple_complete limit text 0 M m p is.major is.minor is.patch rest is.divided is.major_is is.minor_is is.patch_is in
     cc (none, found.1)
 
-no_front : (c : ℕ) (s r : List ℕ) → begins (λ b. b == c) (s ++ r) ≡ false → begins (λ b. b == c) s ≡ false
-no_front c s r h = grind arith
-
 -- a list at a place, or none: what is said of either holds of what is found
 list_or_none : (text : List ℕ) (at start : ℕ) (lead : List ℕ) (Is : List ℕ → List ℕ → List Id → Type 0)
     → drop at text ≡ lead ++ drop start text
@@ -108,7 +105,7 @@ pre_sound text at = elim (cases_Bool (begins (λ b. b == 45) (drop at text))) [
       (λ s r ids e l. dashed s r ids l) (λ none. no_pre_release (drop at text) (rw front none)))
   | inr plain ↦
       rw plain (list_or_none text at at [] IsPreRelease refl
-      (λ s r ids e l. bare s r ids l (no_front 45 s r (rw e at plain)))
+      (λ s r ids e l. bare s r ids l (begins_less (λ b. b == 45) s r (rw e at plain)))
       (λ none. no_pre_release (drop at text) (grind arith)))
 ]
 

@@ -10,7 +10,7 @@ use Rattle.semver_core.proofs.Common.{IsUtf8-encode, IsUtf8-take, IsScalar, reve
 use Rattle.semver_core.proofs.Common.{suc, take-append-drop, ◌==◌}
 use Rattle.{std.proofs.lemmas.Str.{IsCharBoundary-before_ascii}, std.specs.Char.{is_ascii_graphic}}
 use Rattle.semver_core.proofs.Text.{Blanks.{Passed, passed_none, passed_more, passed_stop, passed_end}, SpaceLaw.space_len-white}
-use Rattle.semver_core.proofs.Text.{SpaceLaw.{space_len-dark, space_len-inside}, Spaces.{drop_spaces-more, drop_spaces-none}}
+use Rattle.semver_core.proofs.Text.{Runs.begins_less, SpaceLaw.{space_len-dark, space_len-inside}, Spaces.{drop_spaces-more, drop_spaces-none}}
 
 -- at the front
 
@@ -149,9 +149,6 @@ ended (c ∷ cs) = let e = ended cs in go e.after e.blank e.rest e.divided e.dar
     go after blank (d ∷ xs) e dark =
         record { rest = c ∷ d ∷ xs; after = after; divided = ap (λ t. c ∷ t) e; blank = blank; dark = ends_front c d xs ∙ dark }
 
-begins_front : (cs after : List ℕ) → begins is_whitespace (cs ++ after) ≡ false → begins is_whitespace cs ≡ false
-begins_front cs after h = grind arith
-
 pub IsTrim_exists : (cs : List ℕ) → (middle : List ℕ) × IsTrim (encode_utf8_all cs) middle
 IsTrim_exists cs =
     let f = fronted cs in
@@ -165,7 +162,7 @@ IsTrim_exists cs =
         middle_is = refl;
         blank_before = f.blank;
         blank_after = e.blank;
-        begins_dark = begins_front e.rest e.after (subst (λ (t : List ℕ). begins is_whitespace t ≡ false) e.divided f.dark);
+        begins_dark = begins_less is_whitespace e.rest e.after (subst (λ (t : List ℕ). begins is_whitespace t ≡ false) e.divided f.dark);
         ends_dark = e.dark;
       },
     )
