@@ -125,8 +125,7 @@ run_normal (c ∷ rest) r begin e =
       | inl whole ↦
           let len : run_len text ≡ length text = eqb-true (run_len text) (length text) (whole_run text ∙ whole) in
           let run : take (run_len text) text ≡ text = rw len (take_all (length text) text (omega arith)) in
-          let number : is_none r.1 ≡ not (is_u64_text text) =
-          rw (front_number text r e, run) (written (number_of_run (Some 0) text) text (id_spelled text)) in
-          rw (front_end text r e, whole_run text, whole, number, some) refl
+          let number = written (number_of_run (Some 0) text) text (id_spelled text) in
+          grind (arith, front_end text r e, front_number text r e)
       | inr part ↦ rw (front_end text r e, whole_run text, part, some) refl
     ]

@@ -8,7 +8,7 @@ use Rattle.semver_core.proofs.Common.{list_all-append, IsUtf8-drop, encode_ascii
 use Rattle.semver_core.proofs.Common.{length-encode, IsTrim, and_from, reverse-append, length-reverse, IsCharBoundary-at_seam}
 use Rattle.semver_core.proofs.Common.{IsUtf8-encode, IsUtf8-take, IsScalar, reverse, get_or, nat_tests, drop-cons, drop_all}
 use Rattle.semver_core.proofs.Common.{suc, take-append-drop, ◌==◌}
-use Rattle.{std.proofs.lemmas.Str.{IsCharBoundary-before_ascii}, std.specs.Char.{is_ascii_graphic}}
+use Rattle.{std.proofs.lemmas.Str.{IsCharBoundary-before_ascii, IsUtf8-nil}, std.specs.Char.{is_ascii_graphic}}
 use Rattle.semver_core.proofs.Text.{Blanks.{Passed, passed_none, passed_more, passed_stop, passed_end}, SpaceLaw.space_len-white}
 use Rattle.semver_core.proofs.Text.{Runs.begins_less, SpaceLaw.{space_len-dark, space_len-inside}, Spaces.{drop_spaces-more, drop_spaces-none}}
 
@@ -187,10 +187,8 @@ dark_here text utf8 dark = go utf8.0 utf8.1.1
 
 pub after_blank_drops_spaces : (text : List ℕ) (at end : ℕ) → IsUtf8 text → IsAfterBlank text at end → drop end text ≡ drop_spaces (drop at text)
 after_blank_drops_spaces text at end utf8 a =
-    sym (dark_here (drop end text) (IsUtf8-drop text end utf8 a.boundary) a.ended)
-    ∙ sym (drop_spaces-blank a.blank.characters (drop end text) a.blank.each)
-    ∙ ap (λ t. drop_spaces (t ++ drop end text)) (sym a.blank.spelled)
-    ∙ ap drop_spaces (sym (drop_split text at end a.after))
+    let left = dark_here (drop end text) (IsUtf8-drop text end utf8 a.boundary) a.ended in
+    grind (arith, drop_spaces-blank a.blank.characters (drop end text) a.blank.each, drop_split text at end a.after)
 
 -- that place is where so much of the text is left
 pub after_blank-place : (text : List ℕ) (at end : ℕ) → IsUtf8 text → IsAfterBlank text at end → end ≡ length text - length (drop_spaces (drop at text))
@@ -250,17 +248,7 @@ trim_in_two text rest middle start utf8 a r m =
 -- a text that is empty, or begins and ends with a visible character of ASCII, is its own middle
 
 pub trimmed_none : (text : List ℕ) → (length text == 0) ≡ true → IsTrim text text
-trimmed_none [] h = record {
-  before = [];
-  characters = [];
-  after = [];
-  divided = refl;
-  middle_is = refl;
-  blank_before = refl;
-  blank_after = refl;
-  begins_dark = refl;
-  ends_dark = refl;
-}
+trimmed_none [] h = rw (drop_spaces-nil, drop_end-all [] drop_spaces-nil) at (trim_is_middle [] IsUtf8-nil)
 trimmed_none (b ∷ rest) h = absurd (grind (arith, nat_tests))
 
 visible_small : (b : ℕ) → is_ascii_graphic b ≡ true → b < 128
