@@ -2,7 +2,7 @@
 use Rattle.semver_core.specs.Internal.Parts.{cut_bars}
 use Rattle.semver_core.specs.Text.Bars.{IsCutAtBars, has_bars, is_bar, more_pieces, one_piece}
 use Rattle.semver_core.specs.Text.Characters.{begins, ends}
-use Rattle.std.proofs.Common.{[], IsUtf8, List, arith, false, inl, inr, length, length-append, refl, subst, sym, true, ℕ, ◌&&◌, ◌++◌, ◌<◌, ◌∷◌}
+use Rattle.std.proofs.Common.{[], IsUtf8, List, arith, false, inl, inr, length, length-append, refl, subst, sym, ℕ, ◌&&◌, ◌++◌, ◌<◌, ◌∷◌}
 use Rattle.std.proofs.Common.{◌≡◌}
 use Rattle.std.proofs.Math.Seq.{get_or-append_seam}
 use Rattle.std.proofs.lemmas.Bool.{and_parts, and_right, cases_Bool, eqb-true, or_from}
@@ -46,9 +46,6 @@ onto b text pieces here (more_pieces [] rest others h ended cut) =
 onto b text pieces here (more_pieces (c ∷ piece) rest others h ended cut) =
     more_pieces (b ∷ c ∷ piece) rest others (grind arith) ended cut
 
-bars-first : (b c : ℕ) (t : List ℕ) → is_bar b ≡ true → is_bar c ≡ true → 124 ∷ (124 ∷ t) ≡ b ∷ (c ∷ t)
-bars-first b c t one two = rw (eqb-true b 124 one, eqb-true c 124 two) refl
-
 pub bars_divide : (text : List ℕ) → IsCutAtBars text (cut_bars false text)
 unfolding cut_bars
 bars_divide [] = one_piece [] refl
@@ -58,8 +55,7 @@ bars_divide (b ∷ []) =
 bars_divide (b ∷ c ∷ t) = elim (cases_Bool (is_bar b && is_bar c)) [
   | inl here ↦
       let both = and_parts (is_bar b) (is_bar c) here in
-      rw (here, cut_bars) (subst (λ (text : List ℕ). IsCutAtBars text ([] ∷ cut_bars false t)) (bars-first b c t both.0 both.1)
-      (more_pieces [] t (cut_bars false t) refl refl (bars_divide t)))
+      rw (eqb-true b 124 both.0, eqb-true c 124 both.1, cut_bars) (more_pieces [] t (cut_bars false t) refl refl (bars_divide t))
   | inr other ↦ rw (other, cut_bars) (onto b (c ∷ t) (cut_bars false (c ∷ t)) other (bars_divide (c ∷ t)))
 ]
 

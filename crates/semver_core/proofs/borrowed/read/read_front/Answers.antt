@@ -6,11 +6,8 @@ pub returns-in_err-major-clause-none : goal.returns-in_err-major-clause-none
 returns-in_err-major-clause-none g c =
     rw c.from_residual.ensures (front_not MAX_SAFE_INTEGER c.args.text.now c.in_err-major.ensures.found)
 
-pub from_texts-requires-clause-pre_release : goal.from_texts-requires-clause-pre_release
-from_texts-requires-clause-pre_release g c = nothing_listed
-
-pub from_texts-requires-clause-build : goal.from_texts-requires-clause-build
-from_texts-requires-clause-build g c = nothing_listed
+pub from_texts-requires : goal.from_texts-requires
+from_texts-requires g c = record { pre_release = nothing_listed; build = nothing_listed }
 
 pub returns-then-not-begins_lists-clause-some : goal.returns-then-not-begins_lists-clause-some
 unfolding listed

@@ -17,13 +17,12 @@ one_found text at first end id None is spelled begins stop unbuilt none found =
     rw (found, ← done, unbuilt) refl
 one_found text at first end id (Some s) is spelled begins stop unbuilt none found = search rules
 
-pub goes_on_at-requires-clause-stop : goal.goes_on_at-requires-clause-stop
-goes_on_at-requires-clause-stop c =
-    scan_stops c.args.text.now c.in-Some.first _ (rw c.as_bytes.ensures.value at c.scan_run-run.ensures)
-
-pub goes_on_at-requires-clause-place : goal.goes_on_at-requires-clause-place
-goes_on_at-requires-clause-place c =
-    (scan_fits c.args.text.now c.in-Some.first _ (rw c.as_bytes.ensures.value at c.scan_run-run.ensures) c.in-Some.ensures.place).1
+pub goes_on_at-requires : goal.goes_on_at-requires
+goes_on_at-requires c =
+    let run = rw c.as_bytes.ensures.value at c.scan_run-run.ensures in record {
+      place = (scan_fits c.args.text.now c.in-Some.first _ run c.in-Some.ensures.place).1;
+      stop = scan_stops c.args.text.now c.in-Some.first _ run;
+    }
 
 pub build_start-requires : goal.build_start-requires
 build_start-requires c =
