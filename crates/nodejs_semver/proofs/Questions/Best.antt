@@ -40,7 +40,7 @@ module _ {W : Type 0} (value : W → VersionValue) (set : VersionValue → Bool)
     other = λ b x. not_below o (value b) (value x);
   }) _
 
-  by_value : (beaten : VersionValue → VersionValue → Bool) (best : Option (Bor W)) (x : W) → replaces beaten set (value_of value best) (value x)
+  pub by_value : (beaten : VersionValue → VersionValue → Bool) (best : Option (Bor W)) (x : W) → replaces beaten set (value_of value best) (value x)
       ≡ replaces (λ b x. beaten (value b) (value x)) (λ w. set (value w)) (option_copied best) x
   by_value beaten None x = refl
   by_value beaten (Some b) x = refl
@@ -105,10 +105,9 @@ module _ {V : Type 0} (in_front behind beaten : V → V → Bool) (front : (w v 
 tied_le : (v : VersionValue) → is_le (precedence v v) ≡ true
 tied_le v = ap is_le (tied_itself precedence_total v)
 
-pub max_says : (set : VersionValue → Bool) (list : List VersionValue) (r : Option (Bor VersionValue))
-    → IsMax set list (option_copied r) → Says (λ w v. is_le (precedence w v)) set list r
-max_says = best_says _ _ _ (λ w v h. h) (λ w v h. le_of_lt (precedence w v) h) tied_le
+module _ {W : Type 0} (value : W → VersionValue) (set : VersionValue → Bool) (list : List W) (r : Option (Bor W)) where
+  pub max_says : IsMaxOf value set list (option_copied r) → Says (λ w v. is_le (precedence (value w) (value v))) (λ w. set (value w)) list r
+  max_says = best_says _ _ _ (λ w v h. h) (λ w v h. le_of_lt (precedence (value w) (value v)) h) (λ v. tied_le (value v)) _ list r
 
-pub min_says : (set : VersionValue → Bool) (list : List VersionValue) (r : Option (Bor VersionValue))
-    → IsMin set list (option_copied r) → Says (λ w v. is_le (precedence v w)) set list r
-min_says = best_says _ _ _ (λ w v h. le_of_lt (precedence v w) h) (λ w v h. h) tied_le
+  pub min_says : IsMinOf value set list (option_copied r) → Says (λ w v. is_le (precedence (value v) (value w))) (λ w. set (value w)) list r
+  min_says = best_says _ _ _ (λ w v h. le_of_lt (precedence (value v) (value w)) h) (λ w v h. h) (λ v. tied_le (value v)) _ list r

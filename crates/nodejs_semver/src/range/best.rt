@@ -8,13 +8,13 @@ ghost use Rattle.nodejs_semver.specs.Words.{option_copied, option_map, precedenc
 ghost use Rattle.nodejs_semver.specs.Words.{spans_of, true, VersionValue};
 
 use crate::range::gate::accepts;
-use crate::{Range, RangeOf, RangeRef};
+use crate::RangeOf;
 use semver_core::cuts::Interval;
-use semver_core::{Version, VersionPoint, VersionRef, Versioned};
+use semver_core::{VersionPoint, Versioned};
 
-impl Range {
+impl<V: VersionPoint> RangeOf<V> {
     /// The greatest of the versions that the range accepts by `satisfies`. Returns `None` exactly
-    /// where it accepts none.
+    /// where it accepts none. The versions may outlive the text of the range.
     ///
     /// Of equal versions, which differ in their builds alone, it is the last: `^1` chooses 1.2.0+b
     /// from 1.2.0+a and 1.2.0+b.
@@ -24,14 +24,16 @@ impl Range {
     /// let versions = [Version::from((1u64, 2, 0)), Version::from((2u64, 0, 0))];
     /// assert!(rt; range.max_satisfying(&versions) == Some(&versions[0]));
     /// ```
-    pub fn max_satisfying<'v>(&self, versions: &'v [Version]) -> Option<&'v Version>
-        ensures best { IsMax (λ v. accepts self.now v false) versions.now (option_copied result) }
+    pub fn max_satisfying<'v, W: Versioned>(&self, versions: &'v [W]) -> Option<&'v W>
+        ensures best { IsMaxOf W.value (λ v. accepts self.now v false)
+            versions.now (option_copied result) }
         // It is a version of the slice that the range accepts, and none that it accepts is above.
         ensures member { IfSome result (λ v. Contains versions.now v.now) }
-        ensures accepted { IfSome result (λ v. accepts self.now v.now false ≡ true) }
-        ensures greatest { IfSome result (λ v. All (λ w.
-            accepts self.now w false ≡ true → is_le (precedence w v.now) ≡ true) versions.now) }
-        ensures none { IfNone result (All (λ w. accepts self.now w false ≡ false) versions.now) }
+        ensures accepted { IfSome result (λ v. accepts self.now (W.value v.now) false ≡ true) }
+        ensures greatest { IfSome result (λ v. All (λ w. accepts self.now (W.value w) false ≡ true
+            → is_le (precedence (W.value w) (W.value v.now)) ≡ true) versions.now) }
+        ensures none { IfNone result
+            (All (λ w. accepts self.now (W.value w) false ≡ false) versions.now) }
     {
         greatest(self.items(), false, versions)
     }
@@ -46,14 +48,16 @@ impl Range {
     /// let versions = [Version::from((1u64, 0, 0)), Version::from((1u64, 2, 0))];
     /// assert!(rt; range.min_satisfying(&versions) == Some(&versions[1]));
     /// ```
-    pub fn min_satisfying<'v>(&self, versions: &'v [Version]) -> Option<&'v Version>
-        ensures best { IsMin (λ v. accepts self.now v false) versions.now (option_copied result) }
+    pub fn min_satisfying<'v, W: Versioned>(&self, versions: &'v [W]) -> Option<&'v W>
+        ensures best { IsMinOf W.value (λ v. accepts self.now v false)
+            versions.now (option_copied result) }
         // It is a version of the slice that the range accepts, and none that it accepts is below.
         ensures member { IfSome result (λ v. Contains versions.now v.now) }
-        ensures accepted { IfSome result (λ v. accepts self.now v.now false ≡ true) }
-        ensures smallest { IfSome result (λ v. All (λ w.
-            accepts self.now w false ≡ true → is_le (precedence v.now w) ≡ true) versions.now) }
-        ensures none { IfNone result (All (λ w. accepts self.now w false ≡ false) versions.now) }
+        ensures accepted { IfSome result (λ v. accepts self.now (W.value v.now) false ≡ true) }
+        ensures smallest { IfSome result (λ v. All (λ w. accepts self.now (W.value w) false ≡ true
+            → is_le (precedence (W.value v.now) (W.value w)) ≡ true) versions.now) }
+        ensures none { IfNone result
+            (All (λ w. accepts self.now (W.value w) false ≡ false) versions.now) }
     {
         least(self.items(), false, versions)
     }
@@ -73,12 +77,13 @@ impl Range {
     /// }
     /// assert!(rt; best == Some(Version::from((1u64, 4, 0))));
     /// ```
-    pub fn is_new_max(&self, version: &Version, best: Option<&Version>) -> bool
-        ensures exact { result ≡ replaces (λ b v. is_le (precedence b v))
-            (λ v. accepts self.now v false) (option_copied best.entry) version.now }
-        ensures best { (list : List VersionValue)
-            → IsMax (λ v. accepts self.now v false) list (option_copied best.entry)
-            → IsMax (λ v. accepts self.now v false) (list ++ version.now ∷ [])
+    #[inline(always)]
+    pub fn is_new_max<W: Versioned>(&self, version: &W, best: Option<&W>) -> bool
+        ensures exact { result ≡ replaces (λ b v. is_le (precedence (W.value b) (W.value v)))
+            (λ v. accepts self.now (W.value v) false) (option_copied best.entry) version.now }
+        ensures best { (list : List W)
+            → IsMaxOf W.value (λ v. accepts self.now v false) list (option_copied best.entry)
+            → IsMaxOf W.value (λ v. accepts self.now v false) (list ++ version.now ∷ [])
             (if result then Some version.now else option_copied best.entry) }
     {
         is_new_max(self.items(), false, version, best)
@@ -92,81 +97,18 @@ impl Range {
     /// let best = Version::from((1u64, 4, 0));
     /// assert!(rt; range.is_new_min(&Version::from((1u64, 2, 0)), Some(&best)));
     /// ```
-    pub fn is_new_min(&self, version: &Version, best: Option<&Version>) -> bool
-        ensures exact { result ≡ replaces (λ b v. is_lt (precedence v b))
-            (λ v. accepts self.now v false) (option_copied best.entry) version.now }
-        ensures best { (list : List VersionValue)
-            → IsMin (λ v. accepts self.now v false) list (option_copied best.entry)
-            → IsMin (λ v. accepts self.now v false) (list ++ version.now ∷ [])
+    #[inline(always)]
+    pub fn is_new_min<W: Versioned>(&self, version: &W, best: Option<&W>) -> bool
+        ensures exact { result ≡ replaces (λ b v. is_lt (precedence (W.value v) (W.value b)))
+            (λ v. accepts self.now (W.value v) false) (option_copied best.entry) version.now }
+        ensures best { (list : List W)
+            → IsMinOf W.value (λ v. accepts self.now v false) list (option_copied best.entry)
+            → IsMinOf W.value (λ v. accepts self.now v false) (list ++ version.now ∷ [])
             (if result then Some version.now else option_copied best.entry) }
     {
         is_new_min(self.items(), false, version, best)
     }
-}
 
-impl RangeRef<'_> {
-    /// The greatest of the versions that the range accepts, as `Range::max_satisfying` says. The
-    /// versions may outlive the text of the range.
-    pub fn max_satisfying<'v, 't>(
-        &self,
-        versions: &'v [VersionRef<'t>],
-    ) -> Option<&'v VersionRef<'t>>
-        ensures best { IsMax (λ v. accepts self.now v false) versions.now (option_copied result) }
-        // It is a version of the slice that the range accepts, and none that it accepts is above.
-        ensures member { IfSome result (λ v. Contains versions.now v.now) }
-        ensures accepted { IfSome result (λ v. accepts self.now v.now false ≡ true) }
-        ensures greatest { IfSome result (λ v. All (λ w.
-            accepts self.now w false ≡ true → is_le (precedence w v.now) ≡ true) versions.now) }
-        ensures none { IfNone result (All (λ w. accepts self.now w false ≡ false) versions.now) }
-    {
-        greatest(self.items(), false, versions)
-    }
-
-    /// The smallest of the versions that the range accepts, as `Range::min_satisfying` says. The
-    /// versions may outlive the text of the range.
-    pub fn min_satisfying<'v, 't>(
-        &self,
-        versions: &'v [VersionRef<'t>],
-    ) -> Option<&'v VersionRef<'t>>
-        ensures best { IsMin (λ v. accepts self.now v false) versions.now (option_copied result) }
-        // It is a version of the slice that the range accepts, and none that it accepts is below.
-        ensures member { IfSome result (λ v. Contains versions.now v.now) }
-        ensures accepted { IfSome result (λ v. accepts self.now v.now false ≡ true) }
-        ensures smallest { IfSome result (λ v. All (λ w.
-            accepts self.now w false ≡ true → is_le (precedence v.now w) ≡ true) versions.now) }
-        ensures none { IfNone result (All (λ w. accepts self.now w false ≡ false) versions.now) }
-    {
-        least(self.items(), false, versions)
-    }
-
-    /// Whether a version takes the place of the best so far, as `Range::is_new_max` says.
-    #[inline(always)]
-    pub fn is_new_max(&self, version: &VersionRef<'_>, best: Option<&VersionRef<'_>>) -> bool
-        ensures exact { result ≡ replaces (λ b v. is_le (precedence b v))
-            (λ v. accepts self.now v false) (option_copied best.entry) version.now }
-        ensures best { (list : List VersionValue)
-            → IsMax (λ v. accepts self.now v false) list (option_copied best.entry)
-            → IsMax (λ v. accepts self.now v false) (list ++ version.now ∷ [])
-            (if result then Some version.now else option_copied best.entry) }
-    {
-        is_new_max(self.items(), false, version, best)
-    }
-
-    /// Whether a version takes the place of the best so far, as `Range::is_new_min` says.
-    #[inline(always)]
-    pub fn is_new_min(&self, version: &VersionRef<'_>, best: Option<&VersionRef<'_>>) -> bool
-        ensures exact { result ≡ replaces (λ b v. is_lt (precedence v b))
-            (λ v. accepts self.now v false) (option_copied best.entry) version.now }
-        ensures best { (list : List VersionValue)
-            → IsMin (λ v. accepts self.now v false) list (option_copied best.entry)
-            → IsMin (λ v. accepts self.now v false) (list ++ version.now ∷ [])
-            (if result then Some version.now else option_copied best.entry) }
-    {
-        is_new_min(self.items(), false, version, best)
-    }
-}
-
-impl<V: VersionPoint> RangeOf<V> {
     /// The greatest of the versions that each of the ranges accepts by `satisfies`, as one copy of
     /// a package that serves all who depend on it. Returns `None` exactly where no version is
     /// accepted by all; of no ranges it is the greatest version. Of equal versions it is the last.
