@@ -1,13 +1,13 @@
 -- What is found at the front of a key by a check that allocates nothing.
-use Rattle.std.proofs.Common.{ℕ, ◌≡◌, ◌<◌, ◌≤◌, ◌==◌, ◌^◌, ◌+◌, ◌-◌, ◌++◌, ◌∷◌, ◌∙◌, List, [], IsUtf8, ap, append-nil, append_assoc, arith, drop, length, length-append, not, refl, suc, sym, take, true, zero}
+use Rattle.std.proofs.Common.{ℕ, ◌≡◌, ◌<◌, ◌==◌, ◌^◌, ◌+◌, ◌-◌, ◌++◌, ◌∷◌, ◌∙◌, List, [], IsUtf8, ap, append-nil, append_assoc, arith, length, length-append, not, refl, suc, sym, take, true, zero}
 use Rattle.std.specs.Borrow.{Bor}
 use Rattle.std.specs.List.{starts_with}
 use Rattle.std.specs.Option.{IsSome}
-use Rattle.std.specs.Prelude.{IfNone, MatchResult, None, Option, Result, Some, is_err, false, nat_eq}
+use Rattle.std.specs.Prelude.{None, Option, Some, false, nat_eq}
 use Rattle.std.proofs.Math.ListN.{get_or}
 use Rattle.std.proofs.lemmas.Bool.Decides.{nat_tests}
 use Rattle.std.proofs.lemmas.Grind.{common_steps}
-use Rattle.std.proofs.Math.Seq.{drop-append-add, get_or-append_seam, drop-length, take-append_seam, take-length}
+use Rattle.std.proofs.Math.Seq.{drop-append-add, get_or-append_seam, take-append_seam}
 use Rattle.std.proofs.lemmas.List.Elements.{All-cons, All-head, All-nil, All-tail}
 use Rattle.std.proofs.lemmas.Str.{IsUtf8-append, IsUtf8-encode, IsUtf8-drop, IsUtf8-take, IsCharBoundary-after_ascii, IsCharBoundary-before_ascii}
 use Rattle.semver_core.proofs.Encoding.Reading.{ids_start, text_ends, text_has_zero}
@@ -20,14 +20,6 @@ use Rattle.semver_core.specs.Words.{list_all}
 -- no byte is 0
 abbrev pub no_zero : List ℕ → Type 0
 no_zero bytes = list_all (λ c. not (c == 0)) bytes ≡ true
-
-pub is_bad : {A E : Type 0} (r : Result A E) (P : A → Type 0) (Q : Type 0) (R : E → Type 0)
-    → MatchResult r P (λ e. ¬ Q × R e) → is_err r ≡ true → Q → ⊥
-is_bad r P Q R m h q = grind arith
-
-pub is_good : {A E : Type 0} (r : Result A E) (P : A → Type 0) (Q : Type 0) (R : E → Type 0)
-    → MatchResult r (λ x. P x × Q) R → is_err r ≡ false → Q
-is_good r P Q R m h = grind arith
 
 -- ---- texts
 
@@ -100,18 +92,7 @@ more_left others piece tail more rest e h f is_low (text, utf8, g) =
     let next = text_has_zero more parts.0 rest is_low cc in
     (next.0, (utf8_parts piece next.0 (rw (parts.1, next.1) at utf8)).1, next.2)
 
-pub more_shorter : (bytes others piece tail more : List ℕ) → length others ≤ length bytes → others ≡ piece ++ 0 ∷ tail
-    → tail ≡ 255 ∷ more → length more ≤ length bytes
-more_shorter bytes others piece tail more h e f = grind (arith, common_steps)
-
 -- ---- identifiers
-
-pub number_front : (bytes tail rest : List ℕ) (c : ℕ) → bytes ≡ c ∷ tail → c ≡ 1
-    → (n : ℕ) × (n < 2 ^ 64) × (tail ≡ number_key n ++ rest) → IsIdFront bytes rest
-number_front bytes tail rest c e f (n, small, g) = (Numeric n, small, cc)
-
-pub text_front : (bytes tail rest : List ℕ) (c : ℕ) → bytes ≡ c ∷ tail → c ≡ 2 → IsTextFront tail rest → IsIdFront bytes rest
-text_front bytes tail rest c e f (text, utf8, g) = (AlphaNumeric text, utf8, cc)
 
 pub ids_found : (others rest : List ℕ) → IsIdFront others rest → AreIds rest → AreIds others
 ids_found others rest (x, is, e) (ids, all, f) = (x ∷ ids, All-cons IsId x ids is all, cc)
@@ -171,34 +152,8 @@ pub ids_of_pre : (bytes : List ℕ) → IsPre bytes → false ≡ starts_with na
 ids_of_pre bytes ([], all, e) other = cc
 ids_of_pre bytes (x ∷ list, all, e) other = (x ∷ list, all, e)
 
-pre_of_ids : (bytes : List ℕ) (ids : List Id) → IsPre bytes → ids_key ids ≡ bytes → pre_key ids ≡ bytes
+pub pre_of_ids : (bytes : List ℕ) (ids : List Id) → IsPre bytes → ids_key ids ≡ bytes → pre_key ids ≡ bytes
 pre_of_ids bytes (x ∷ ids) pre e = e
 pre_of_ids bytes [] ([], all, f) e = cc
 pre_of_ids bytes [] (Numeric n ∷ list, all, f) e = cc
 pre_of_ids bytes [] (AlphaNumeric t ∷ list, all, f) e = cc
-
-pub key_made : (v : VersionValue) (major minor patch : ℕ) (bytes rest : List ℕ) → bytes ≡ numbers_key major minor patch rest
-    → (v.major ≡ major) × (v.minor ≡ minor) × (v.patch ≡ patch) × (pre_key v.pre_release ≡ rest) × (v.build ≡ []) → key v ≡ bytes
-key_made v major minor patch bytes rest e is = cc
-
--- no version has a key with this rest
-pub no_key : (bytes : List ℕ) (v : VersionValue) → IsVersion v → key v ≡ bytes
-    → ((major minor patch : ℕ) (rest : List ℕ) → major < 2 ^ 64 → minor < 2 ^ 64 → patch < 2 ^ 64
-    → bytes ≡ numbers_key major minor patch rest → ⊥) → ⊥
-no_key bytes v is e no_numbers = no_numbers v.major v.minor v.patch (pre_key v.pre_release) is.major is.minor is.patch (sym e)
-
-pub no_pre : (bytes rest : List ℕ) (M m p : ℕ) (v : VersionValue) → IsVersion v → key v ≡ bytes
-    → ((major minor patch : ℕ) (more : List ℕ) → major < 2 ^ 64 → minor < 2 ^ 64 → patch < 2 ^ 64
-    → bytes ≡ numbers_key major minor patch more → (M ≡ major) × (m ≡ minor) × (p ≡ patch) × (rest ≡ more)) → IsPre rest
-no_pre bytes rest M m p v is e only =
-    (v.pre_release, is.pre_release, (only v.major v.minor v.patch (pre_key v.pre_release) is.major is.minor is.patch (sym e)).3)
-
-pub never : {T : Type 0} (P : Type 0) (found : Option T) → IfNone found ⊥ → IfNone found P
-never P found h = grind arith
-
-pub version_made : (v : VersionValue) (major minor patch n : ℕ) (ids : List Id) (bytes : List ℕ)
-    → v ≡ record { major = major; minor = minor; patch = patch; pre_release = take n ids; build = drop n ids }
-    → n ≡ length ids → IsPre bytes → ids_key ids ≡ bytes
-    → (v.major ≡ major) × (v.minor ≡ minor) × (v.patch ≡ patch) × (pre_key v.pre_release ≡ bytes) × (v.build ≡ [])
-version_made v major minor patch n ids bytes e len pre read =
-    rw (e, len, take-length ids, drop-length ids) (refl, refl, refl, pre_of_ids bytes ids pre read, refl)

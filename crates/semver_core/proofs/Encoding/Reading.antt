@@ -1,9 +1,7 @@
 -- What the bytes at the front of a key say.
 use Rattle.std.proofs.Common.{ℕ, ◌≡◌, ◌<◌, ◌+◌, ◌++◌, ◌∷◌, List, [], refl, arith, zero, suc, length, drop, take}
-use Rattle.std.specs.Int.{from_be_bytes, to_be_bytes, w16, w32, w64}
 use Rattle.std.proofs.lemmas.List.{take-append-drop}
 use Rattle.std.proofs.lemmas.Grind.{common_steps, elements}
-use Rattle.std.proofs.lemmas.Nat.{be_bytes_2, be_bytes_4, be_bytes_8}
 use Rattle.std.proofs.Math.ListN.{get_or}
 use Rattle.semver_core.specs.Keys.{ids_key, text_key}
 use Rattle.semver_core.specs.Text.Identifiers.{AlphaNumeric, Id, Numeric}
@@ -41,7 +39,7 @@ text_ends tail (suc d ∷ text) rest h e = cc
 -- ---- the bytes of numbers
 
 -- what is cut off in front is the bytes of the number that it spells
-spelled : (k : ℕ) (bytes chunk rest more : List ℕ) → chunk ≡ take k bytes → rest ≡ drop k bytes → length rest + k ≡ length bytes
+pub spelled : (k : ℕ) (bytes chunk rest more : List ℕ) → chunk ≡ take k bytes → rest ≡ drop k bytes → length rest + k ≡ length bytes
     → ((i : ℕ) → get_or bytes i 0 < 256) → (length chunk ≡ k → ((i : ℕ) → get_or chunk i 0 < 256) → more ≡ chunk)
     → bytes ≡ more ++ rest
 spelled k bytes chunk rest more e f len h same =
@@ -50,18 +48,3 @@ spelled k bytes chunk rest more e f len h same =
     let small : (i : ℕ) → get_or chunk i 0 < 256 = λ i. grind (arith, common_steps, elements, h i) in
     let is = same long small in
     cc
-
-pub two_spelled : (bytes chunk rest : List ℕ) (n : ℕ) → chunk ≡ take 2 bytes → rest ≡ drop 2 bytes
-    → length rest + 2 ≡ length bytes → ((i : ℕ) → get_or bytes i 0 < 256) → n ≡ from_be_bytes w16 chunk
-    → bytes ≡ to_be_bytes w16 n ++ rest
-two_spelled bytes chunk rest n e f len h is = spelled 2 bytes chunk rest _ e f len h (λ long small. be_bytes_2 chunk n long small is)
-
-pub four_spelled : (bytes chunk rest : List ℕ) (n : ℕ) → chunk ≡ take 4 bytes → rest ≡ drop 4 bytes
-    → length rest + 4 ≡ length bytes → ((i : ℕ) → get_or bytes i 0 < 256) → n ≡ from_be_bytes w32 chunk
-    → bytes ≡ to_be_bytes w32 n ++ rest
-four_spelled bytes chunk rest n e f len h is = spelled 4 bytes chunk rest _ e f len h (λ long small. be_bytes_4 chunk n long small is)
-
-pub eight_spelled : (bytes chunk rest : List ℕ) (n : ℕ) → chunk ≡ take 8 bytes → rest ≡ drop 8 bytes
-    → length rest + 8 ≡ length bytes → ((i : ℕ) → get_or bytes i 0 < 256) → n ≡ from_be_bytes w64 chunk
-    → bytes ≡ to_be_bytes w64 n ++ rest
-eight_spelled bytes chunk rest n e f len h is = spelled 8 bytes chunk rest _ e f len h (λ long small. be_bytes_8 chunk n long small is)
