@@ -12,14 +12,6 @@ ids_start [] = low 0 [] (omega arith)
 ids_start (Numeric n ∷ xs) = low 1 _ (omega arith)
 ids_start (AlphaNumeric t ∷ xs) = low 2 _ (omega arith)
 
-abbrev pub first_of : List ℕ → ℕ
-first_of [] = 0
-first_of (c ∷ rest) = c
-
-abbrev pub behind : List ℕ → List ℕ
-behind [] = []
-behind (c ∷ rest) = rest
-
 -- ---- texts
 
 -- 0 and 255 are the byte 0 of the text
