@@ -28,32 +28,22 @@ cmp_below m n h = sym (nat_cmp_is m n Less h)
 pub cmp_above : (m n : ℕ) → n < m → nat_cmp m n ≡ Greater
 cmp_above m n h = sym (nat_cmp_is m n Greater h)
 
--- one first byte and one number less than the other
-pub both_below : (x y m n : ℕ) (t u : Ordering) → x < y → m < n → ordering_then (nat_cmp x y) t ≡ ordering_then (nat_cmp m n) u
-both_below x y m n t u h k = rw (cmp_below x y h, cmp_below m n k) refl
-
-pub both_above : (x y m n : ℕ) (t u : Ordering) → y < x → n < m → ordering_then (nat_cmp x y) t ≡ ordering_then (nat_cmp m n) u
-both_above x y m n t u h k = rw (cmp_above x y h, cmp_above m n k) refl
-
 pub is_below : (m n : ℕ) (u : Ordering) → m < n → ordering_then (nat_cmp m n) u ≡ Less
 is_below m n u h = rw (cmp_below m n h) refl
 
 pub is_above : (m n : ℕ) (u : Ordering) → n < m → ordering_then (nat_cmp m n) u ≡ Greater
 is_above m n u h = rw (cmp_above m n h) refl
 
--- a digit more, by the order of that digit
-digit_by : (d a b c e : ℕ) → b < d → e < d → (r s : Ordering) → MatchOrdering r (a < c) (a ≡ c) (c < a)
-    → MatchOrdering s (b < e) (b ≡ e) (e < b)
-    → MatchOrdering (ordering_then r s) (a * d + b < c * d + e) (a * d + b ≡ c * d + e) (c * d + e < a * d + b)
-digit_by d a b c e h k Less s p q = omega (arith, mul-le-mul_left d p)
-digit_by d a b c e h k Greater s p q = omega (arith, mul-le-mul_left d p)
-digit_by d a b c e h k Equal Less p q = omega (arith, ap (λ n. n * d) p)
-digit_by d a b c e h k Equal Greater p q = omega (arith, ap (λ n. n * d) p)
-digit_by d a b c e h k Equal Equal p q = omega (arith, ap (λ n. n * d) p)
-
+-- a digit more
 digit_cmp : (d a b c e : ℕ) → b < d → e < d → nat_cmp (a * d + b) (c * d + e) ≡ ordering_then (nat_cmp a c) (nat_cmp b e)
-digit_cmp d a b c e h k =
-    sym (nat_cmp_is _ _ _ (digit_by d a b c e h k (nat_cmp a c) (nat_cmp b e) (ranks a c) (ranks b e)))
+digit_cmp d a b c e h k = sym (nat_cmp_is _ _ _ (by (nat_cmp a c) (nat_cmp b e) (ranks a c) (ranks b e)))
+  where
+    by : (r s : Ordering) → MatchOrdering r (a < c) (a ≡ c) (c < a) → MatchOrdering s (b < e) (b ≡ e) (e < b)
+        → MatchOrdering (ordering_then r s) (a * d + b < c * d + e) (a * d + b ≡ c * d + e) (c * d + e < a * d + b)
+    by Less s p q = omega (arith, mul-le-mul_left d p)
+    by Greater s p q = omega (arith, mul-le-mul_left d p)
+    by Equal Less p q = omega (arith, ap (λ n. n * d) p)
+    by Equal s p q = omega (arith, ap (λ n. n * d) p)
 
 -- what is left of a number below the place after the next, by the digit at this place
 top_digit : (n d : ℕ) → 0 < d → n % (d * 256) ≡ n / d % 256 * d + n % d
@@ -110,32 +100,30 @@ form n = form_by n _ _ _ refl refl refl
 
 cmp_by : (m n : ℕ) (k l r s : List ℕ) → Form m k → Form n l → bytes_cmp (k ++ r) (l ++ s) ≡ ordering_then (nat_cmp m n) (bytes_cmp r s)
 cmp_by m n _ _ r s (one h) (one k) = refl
-cmp_by m n _ _ r s (one h) (two k l) = both_below m 251 m n _ _ h (omega arith)
-cmp_by m n _ _ r s (one h) (four k l) = both_below m 252 m n _ _ (omega arith) (omega arith)
-cmp_by m n _ _ r s (one h) (eight k l) = both_below m 253 m n _ _ (omega arith) (omega arith)
-cmp_by m n _ _ r s (two g h) (one k) = both_above 251 n m n _ _ k (omega arith)
 cmp_by m n _ _ r s (two g h) (two k l) = all_bytes_cmp 1 m n r s h l
+cmp_by m n _ _ r s (four g h) (four k l) = all_bytes_cmp 3 m n r s h l
+cmp_by m n _ _ r s (eight g h) (eight k l) = all_bytes_cmp 7 m n r s h l
+cmp_by m n _ _ r s (one h) (two k l) = is_below m 251 _ h ∙ sym (is_below m n _ (omega arith))
+cmp_by m n _ _ r s (one h) (four k l) = is_below m 252 _ (omega arith) ∙ sym (is_below m n _ (omega arith))
+cmp_by m n _ _ r s (one h) (eight k l) = is_below m 253 _ (omega arith) ∙ sym (is_below m n _ (omega arith))
+cmp_by m n _ _ r s (two g h) (one k) = is_above 251 n _ k ∙ sym (is_above m n _ (omega arith))
+cmp_by m n _ _ r s (four g h) (one k) = is_above 252 n _ (omega arith) ∙ sym (is_above m n _ (omega arith))
+cmp_by m n _ _ r s (eight g h) (one k) = is_above 253 n _ (omega arith) ∙ sym (is_above m n _ (omega arith))
 cmp_by m n _ _ r s (two g h) (four k l) = sym (is_below m n _ (omega arith))
 cmp_by m n _ _ r s (two g h) (eight k l) = sym (is_below m n _ (omega arith))
-cmp_by m n _ _ r s (four g h) (one k) = both_above 252 n m n _ _ (omega arith) (omega arith)
-cmp_by m n _ _ r s (four g h) (two k l) = sym (is_above m n _ (omega arith))
-cmp_by m n _ _ r s (four g h) (four k l) = all_bytes_cmp 3 m n r s h l
 cmp_by m n _ _ r s (four g h) (eight k l) = sym (is_below m n _ (omega arith))
-cmp_by m n _ _ r s (eight g h) (one k) = both_above 253 n m n _ _ (omega arith) (omega arith)
+cmp_by m n _ _ r s (four g h) (two k l) = sym (is_above m n _ (omega arith))
 cmp_by m n _ _ r s (eight g h) (two k l) = sym (is_above m n _ (omega arith))
 cmp_by m n _ _ r s (eight g h) (four k l) = sym (is_above m n _ (omega arith))
-cmp_by m n _ _ r s (eight g h) (eight k l) = all_bytes_cmp 7 m n r s h l
 
 -- the keys of two numbers, and what stands behind them
 pub number_cmp : (m n : ℕ) (r s : List ℕ) → m < 2 ^ 64 → n < 2 ^ 64
     → bytes_cmp (number_key m ++ r) (number_key n ++ s) ≡ ordering_then (nat_cmp m n) (bytes_cmp r s)
 number_cmp m n r s h k = cmp_by m n _ _ r s (form m h) (form n k)
 
-low_by : (n : ℕ) (k r : List ℕ) → Form n k → IsLow (k ++ r)
-low_by n _ r (one h) = low n r (omega arith)
-low_by n _ r (two g h) = low 251 _ (omega arith)
-low_by n _ r (four g h) = low 252 _ (omega arith)
-low_by n _ r (eight g h) = low 253 _ (omega arith)
-
 pub number_low : (n : ℕ) (r : List ℕ) → n < 2 ^ 64 → IsLow (number_key n ++ r)
-number_low n r h = low_by n _ r (form n h)
+number_low n r h = by (number_key n) (form n h)
+  where
+    by : (k : List ℕ) → Form n k → IsLow (k ++ r)
+    by _ (one h) = low n r (omega arith)
+    by _ l = low _ _ (omega arith)

@@ -9,7 +9,7 @@ use Rattle.std.specs.declared.cmp.Ordering.{Ordering}
 use Rattle.std.specs.declared.cmp.Ordering.TheVariants.{Less, Equal, Greater}
 use Rattle.semver_core.proofs.Encoding.Numbers.{bytes_cmp, cmp_above, cmp_below, is_above, is_below, number_cmp, then_assoc}
 use Rattle.semver_core.specs.Internal.KeyReading.{IsLow, low}
-use Rattle.semver_core.specs.Keys.{id_key, ids_key, key, number_key, pre_key, text_key}
+use Rattle.semver_core.specs.Keys.{id_key, ids_key, key, pre_key, text_key}
 use Rattle.semver_core.specs.Text.Identifiers.{AlphaNumeric, Id, Numeric}
 use Rattle.semver_core.specs.Values.Order.{id_cmp, pre_cmp, precedence}
 use Rattle.semver_core.specs.Values.Versions.{IsId, IsVersion, VersionValue}
@@ -38,85 +38,54 @@ text_cmp (suc c ∷ s) (zero ∷ t) q r h k = rw (cmp_above (suc c) 0 (omega ari
 text_cmp (suc c ∷ s) (suc d ∷ t) q r h k =
     ap (ordering_then (nat_cmp (suc c) (suc d))) (text_cmp s t q r h k) ∙ sym (then_assoc (nat_cmp (suc c) (suc d)) _ _)
 
-identifier_cmp : (x y : Id) (q r : List ℕ) → IsId x → IsId y → IsLow q → IsLow r
-    → bytes_cmp (id_key x ++ q) (id_key y ++ r) ≡ ordering_then (id_cmp x y) (bytes_cmp q r)
-identifier_cmp (Numeric m) (Numeric n) q r h k g l = number_cmp m n q r h k
-identifier_cmp (Numeric m) (AlphaNumeric t) q r h k g l = refl
-identifier_cmp (AlphaNumeric s) (Numeric n) q r h k g l = refl
-identifier_cmp (AlphaNumeric s) (AlphaNumeric t) q r h k g l = text_cmp s t q r g l
-
 ids_low : (xs : List Id) (r : List ℕ) → IsLow (ids_key xs ++ r)
 ids_low [] r = low 0 r (omega arith)
 ids_low (Numeric n ∷ xs) r = low 1 _ (omega arith)
 ids_low (AlphaNumeric t ∷ xs) r = low 2 _ (omega arith)
 
-first_below : (x : Id) (xs : List Id) (q r : List ℕ) → bytes_cmp (0 ∷ q) (ids_key (x ∷ xs) ++ r) ≡ Less
-first_below (Numeric n) xs q r = refl
-first_below (AlphaNumeric t) xs q r = refl
-
-first_above : (x : Id) (xs : List Id) (q r : List ℕ) → bytes_cmp (ids_key (x ∷ xs) ++ r) (0 ∷ q) ≡ Greater
-first_above (Numeric n) xs q r = refl
-first_above (AlphaNumeric t) xs q r = refl
+identifier_cmp : (x y : Id) (q r : List ℕ) → IsId x → IsId y → IsLow q → IsLow r
+    → bytes_cmp (id_key x ++ q) (id_key y ++ r) ≡ ordering_then (id_cmp x y) (bytes_cmp q r)
+identifier_cmp (Numeric m) (Numeric n) q r h k g l = number_cmp m n q r h k
+identifier_cmp (AlphaNumeric s) (AlphaNumeric t) q r h k g l = text_cmp s t q r g l
+identifier_cmp _ _ q r h k g l = refl
 
 ids_cmp : (xs ys : List Id) (q r : List ℕ) → All IsId xs → All IsId ys
     → bytes_cmp (ids_key xs ++ q) (ids_key ys ++ r) ≡ ordering_then (slice_cmp id_cmp xs ys) (bytes_cmp q r)
 ids_cmp [] [] q r h k = refl
-ids_cmp [] (y ∷ ys) q r h k = first_below y ys q r
-ids_cmp (x ∷ xs) [] q r h k = first_above x xs r q
+ids_cmp [] (Numeric n ∷ ys) q r h k = refl
+ids_cmp [] (AlphaNumeric t ∷ ys) q r h k = refl
+ids_cmp (Numeric n ∷ xs) [] q r h k = refl
+ids_cmp (AlphaNumeric t ∷ xs) [] q r h k = refl
 ids_cmp (x ∷ xs) (y ∷ ys) q r h k = rw (append_assoc (id_key x) (ids_key xs) q, append_assoc (id_key y) (ids_key ys) r)
     (identifier_cmp x y _ _ (All-head IsId x xs h) (All-head IsId y ys k) (ids_low xs q) (ids_low ys r)
     ∙ (ap (ordering_then (id_cmp x y)) (ids_cmp xs ys q r (All-tail IsId x xs h) (All-tail IsId y ys k))
     ∙ sym (then_assoc (id_cmp x y) (slice_cmp id_cmp xs ys) (bytes_cmp q r))))
 
-release_above : (x : Id) (xs : List Id) (q r : List ℕ) → bytes_cmp (3 ∷ q) (ids_key (x ∷ xs) ++ r) ≡ Greater
-release_above (Numeric n) xs q r = refl
-release_above (AlphaNumeric t) xs q r = refl
-
-pre_below : (x : Id) (xs : List Id) (q r : List ℕ) → bytes_cmp (ids_key (x ∷ xs) ++ r) (3 ∷ q) ≡ Less
-pre_below (Numeric n) xs q r = refl
-pre_below (AlphaNumeric t) xs q r = refl
-
 pre_release_cmp : (xs ys : List Id) (q r : List ℕ) → All IsId xs → All IsId ys
     → bytes_cmp (pre_key xs ++ q) (pre_key ys ++ r) ≡ ordering_then (pre_cmp xs ys) (bytes_cmp q r)
 pre_release_cmp [] [] q r h k = refl
-pre_release_cmp [] (y ∷ ys) q r h k = release_above y ys q r
-pre_release_cmp (x ∷ xs) [] q r h k = pre_below x xs r q
+pre_release_cmp [] (Numeric n ∷ ys) q r h k = refl
+pre_release_cmp [] (AlphaNumeric t ∷ ys) q r h k = refl
+pre_release_cmp (Numeric n ∷ xs) [] q r h k = refl
+pre_release_cmp (AlphaNumeric t ∷ xs) [] q r h k = refl
 pre_release_cmp (x ∷ xs) (y ∷ ys) q r h k = ids_cmp (x ∷ xs) (y ∷ ys) q r h k
-
--- the key of a version, with what stands behind it
-grouped : (v : VersionValue) (r : List ℕ) → key v ++ r
-    ≡ number_key v.major ++ (number_key v.minor ++ (number_key v.patch ++ (pre_key v.pre_release ++ r)))
-grouped v r = simp append_assoc
 
 pub key_followed : (v w : VersionValue) (r s : List ℕ) → IsVersion v → IsVersion w
     → bytes_cmp (key v ++ r) (key w ++ s) ≡ ordering_then (precedence v w) (bytes_cmp r s)
-key_followed v w r s h k = rw (grouped v r, grouped w s)
-    (number_cmp v.major w.major _ _ h.major k.major
-    ∙ (ap (ordering_then (nat_cmp v.major w.major)) (number_cmp v.minor w.minor _ _ h.minor k.minor
-    ∙ (ap (ordering_then (nat_cmp v.minor w.minor)) (number_cmp v.patch w.patch _ _ h.patch k.patch
-    ∙ (ap (ordering_then (nat_cmp v.patch w.patch)) (pre_release_cmp v.pre_release w.pre_release r s h.pre_release k.pre_release)
-    ∙ sym (then_assoc (nat_cmp v.patch w.patch) _ _)))
-    ∙ sym (then_assoc (nat_cmp v.minor w.minor) _ _)))
-    ∙ sym (then_assoc (nat_cmp v.major w.major) _ _)))
+key_followed v w r s h k = simp (append_assoc, number_cmp, pre_release_cmp, then_assoc, h.major, h.minor, h.patch, h.pre_release,
+    k.major, k.minor, k.patch, k.pre_release)
 
 pub key_cmp : (v w : VersionValue) → IsVersion v → IsVersion w → slice_cmp nat_cmp (key v) (key w) ≡ precedence v w
-key_cmp v w h k =
-    let e : bytes_cmp (key v ++ []) (key w ++ []) ≡ ordering_then (precedence v w) Equal = key_followed v w [] [] h k in
-    (λ i. bytes_cmp (sym (append-nil (key v)) i) (sym (append-nil (key w)) i)) ∙ (e ∙ then_equal (precedence v w))
-
-then_both : (a b : Ordering) → ordering_then a b ≡ Equal → (a ≡ Equal) × (b ≡ Equal)
-then_both Less b e = cc e
-then_both Equal b e = (refl, e)
-then_both Greater b e = cc e
-
-nothing_behind : (r : List ℕ) → bytes_cmp r [] ≡ Equal → r ≡ []
-nothing_behind [] e = refl
-nothing_behind (c ∷ r) e = cc e
+key_cmp v w h k = simp (append-nil, then_equal) at (key_followed v w [] [] h k)
 
 pub no_key_before : (v w : VersionValue) (r : List ℕ) → IsVersion v → IsVersion w → key w ≡ key v ++ r
     → (precedence v w ≡ Equal) × (r ≡ [])
-no_key_before v w r h k e =
-    let tied : bytes_cmp (key v ++ r) (key w ++ []) ≡ Equal =
-    ap (bytes_cmp (key v ++ r)) (append-nil (key w) ∙ e) ∙ tied_itself nat_list_cmp_total (key v ++ r) in
-    let both = then_both (precedence v w) (bytes_cmp r []) (sym (key_followed v w r [] h k) ∙ tied) in
-    (both.0, nothing_behind r both.1)
+no_key_before v w r h k e = by (precedence v w) r (sym (key_followed v w r [] h k) ∙ tied)
+  where
+    tied : bytes_cmp (key v ++ r) (key w ++ []) ≡ Equal
+    tied = rw (append-nil, e) (tied_itself nat_list_cmp_total (key v ++ r))
+
+    by : (a : Ordering) (r : List ℕ) → ordering_then a (bytes_cmp r []) ≡ Equal → (a ≡ Equal) × (r ≡ [])
+    by Equal [] e = (refl, refl)
+    by Equal (c ∷ r) e = cc
+    by _ r e = cc

@@ -38,16 +38,13 @@ list_overflows xs ys h = raise_divided xs ys (2 ^ 64 - 1) h
 -- what is kept begins with what the identifier matches, and a number
 pub list_kept : (id : List ℕ) (list : List Id) → IsTrue (is_kept id list)
     ↔ ((n : ℕ) × (rest : List Id) × (list ≡ asked id ∷ Numeric n ∷ rest))
-list_kept id list = (there list, back)
+list_kept id list = (there list, λ p. rw p.2 (ap is_eq (tied_itself id_total (asked id))))
   where
     there : (list : List Id) → IsTrue (is_kept id list) → (n : ℕ) × (rest : List Id) × (list ≡ asked id ∷ Numeric n ∷ rest)
-    there [] h = cc
-    there (x ∷ []) h = cc
-    there (x ∷ AlphaNumeric text ∷ rest) h = cc
     there (x ∷ Numeric n ∷ rest) h = (n, rest, ap (λ y. y ∷ Numeric n ∷ rest) (id_same x (asked id) ((Equal-is _).0 h)))
-
-    back : ((n : ℕ) × (rest : List Id) × (list ≡ asked id ∷ Numeric n ∷ rest)) → IsTrue (is_kept id list)
-    back p = rw p.2 (ap is_eq (tied_itself id_total (asked id)))
+    there (x ∷ []) h = cc
+    there (x ∷ y ∷ rest) h = cc
+    there list h = cc
 
 by_raise : (list : List Id) (id : List ℕ) (base : IdentifierBase) → has_numeric list ≡ true → advance list id base ≡ raise_last list
 by_raise [] id base h = cc
@@ -88,12 +85,12 @@ advance_at list id base at n last =
     ∙ ap raise_last last.0 ∙ raise_divided (take at list) (drop (at + 1) list) n last.1
 
 -- it is not empty
-some_behind : (front back : List Id) (x : Id) → false ≡ is_empty (front ++ x ∷ back)
-some_behind [] back x = refl
-some_behind (first ∷ front) back x = refl
-
 pub some_numbered : (list : List Id) (n before : ℕ) → false ≡ is_empty (numbered list (Some n) before)
-some_numbered list n before = some_behind (take before list) (drop (before + 1) list) (Numeric n)
+some_numbered list n before = by (take before list)
+  where
+    by : (front : List Id) → false ≡ is_empty (front ++ Numeric n ∷ drop (before + 1) list)
+    by [] = refl
+    by (x ∷ front) = refl
 
 -- one more identifier is looked at
 pub tracks_text : (list rest : List Id) (last : Option (ℕ × ℕ)) (text : List ℕ) → Tracks list (AlphaNumeric text ∷ rest) last

@@ -26,19 +26,13 @@ by_one P n f none some =
     (λ h. some (grind (arith, nat_tests)))
 
 none_left : (xs : List Id) → is_empty xs ≡ true → xs ≡ []
-none_left [] h = refl
-none_left (x ∷ xs) h = cc
+none_left xs h = grind arith
 
 filled : (xs : List Id) → is_empty xs ≡ false → 0 < length xs
-filled [] h = cc
-filled (x ∷ xs) h = omega arith
+filled xs h = grind arith
 
 release_up : (v : VersionValue) → is_release v ≡ false → IsAbove v (release_of v)
-release_up v h = above_pre v (release_of v) refl refl refl (by v.pre_release h)
-  where
-    by : (pre : List Id) → is_empty pre ≡ false → pre_cmp pre [] ≡ Less
-    by [] h = cc
-    by (x ∷ xs) h = refl
+release_up v h = above_pre v (release_of v) refl refl refl (grind arith)
 
 first : (v : VersionValue) → IsVersion v → (a b c : ℕ) → a < 2 ^ 64 → b < 2 ^ 64 → c < 2 ^ 64
     → IsVersion (record { major = a; minor = b; patch = c; pre_release = Numeric 0 ∷ []; build = v.build })
@@ -47,13 +41,10 @@ first v k a b c p q r =
     record { major = p; minor = q; patch = r; pre_release = zero; build = k.build }
 
 pre_above : (xs ys : List Id) → is_empty xs ≡ false → slice_cmp id_cmp xs ys ≡ Less → pre_cmp xs ys ≡ Less
-pre_above [] ys s h = cc
-pre_above (x ∷ xs) [] s h = refl
-pre_above (x ∷ xs) (y ∷ ys) s h = h
+pre_above xs ys s h = grind arith
 
 advance_zero : (xs : List Id) → is_empty xs ≡ false → has_numeric xs ≡ false → advance xs [] (Value 0) ≡ Ok (xs ++ Numeric 0 ∷ [])
-advance_zero [] s n = cc
-advance_zero (x ∷ xs) s n = rw n refl
+advance_zero xs s n = grind arith
 
 pub prerelease_least : (v : VersionValue) → IsVersion v → (is_release v ≡ true → v.patch < 2 ^ 64 - 1)
     → (is_release v ≡ false → has_numeric v.pre_release ≡ false)

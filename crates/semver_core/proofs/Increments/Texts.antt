@@ -2,20 +2,15 @@
 use Rattle.semver_core.proofs.Common.{AlphaNumeric, arith, nat_tests, Bool, Id, List, [], ap, bytes_eq, drop, eqb, false, length, ◌==◌, list_text}
 use Rattle.semver_core.proofs.Common.{marked_list, refl, sym, take, true, ℕ, ◌&&◌, ◌++◌, ◌∙◌, ◌∷◌, ◌≡◌}
 use Rattle.semver_core.proofs.Printing.Returns.{marked_first}
+use Rattle.std.proofs.Math.Bool.{and_assoc}
 
 -- ---- what begins with a front is compared behind it
-
-three : (a b c : Bool) → (a && (b && c)) ≡ ((a && b) && c)
-three true b c = refl
-three false b c = refl
 
 pub compared : (front text more : List ℕ) → bytes_eq text (front ++ more)
     ≡ (bytes_eq (take (length front) text) front && bytes_eq (drop (length front) text) more)
 compared [] text more = refl
 compared (c ∷ front) [] more = refl
-compared (c ∷ front) (d ∷ text) more =
-    ap (λ b. eqb d c && b) (compared front text more)
-    ∙ three (eqb d c) (bytes_eq (take (length front) text) front) (bytes_eq (drop (length front) text) more)
+compared (c ∷ front) (d ∷ text) more = rw (and_assoc, compared front text more) refl
 
 -- ---- a list that is left, with its mark, begins with the mark and a text
 
@@ -35,11 +30,7 @@ module _ (mark rest word : List ℕ) (left others : List Id) (e : left ≡ Alpha
     ← is,
     compared word behind (marked_list (46 ∷ []) others),
     h,
-  ) (none (bytes_eq (take (length mark) rest) mark))
-    where
-      none : (b : Bool) → (b && false) ≡ false
-      none true = refl
-      none false = refl
+  ) (grind arith)
 
   pub word_behind : (behind ahead : List ℕ) → bytes_eq (take (length mark) rest) mark ≡ true → behind ≡ drop (length mark) rest
       → bytes_eq (take (length word) behind) word ≡ true → ahead ≡ drop (length word) behind
@@ -60,8 +51,5 @@ whole_left [] = refl
 whole_left (x ∷ xs) = refl
 
 pub none_left : (mark rest : List ℕ) (left : List Id) → left ≡ [] → (length rest == 0) ≡ bytes_eq rest (marked_list mark left)
-none_left mark rest left e = rw e (by rest)
-  where
-    by : (rest : List ℕ) → (length rest == 0) ≡ bytes_eq rest []
-    by [] = refl
-    by (c ∷ rest) = grind (arith, nat_tests)
+none_left mark [] left e = rw e refl
+none_left mark (c ∷ rest) left e = rw e (grind (arith, nat_tests))

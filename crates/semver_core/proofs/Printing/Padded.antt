@@ -56,16 +56,13 @@ behind [] = []
 behind (run ∷ runs) = runs
 
 onto_padded : (c d : ℕ) (runs : List (List ℕ)) → first_padded (onto_first c (onto_first d runs)) ≡ (c == 48)
-onto_padded c d [] = refl
-onto_padded c d (run ∷ runs) = grind (arith, nat_tests)
+onto_padded c d runs = grind (arith, nat_tests)
 
 onto_behind : (c : ℕ) (runs : List (List ℕ)) → behind (onto_first c runs) ≡ behind runs
-onto_behind c [] = refl
-onto_behind c (run ∷ runs) = refl
+onto_behind c runs = grind arith
 
 any_split : (runs : List (List ℕ)) → list_any is_padded runs ≡ (first_padded runs || list_any is_padded (behind runs))
-any_split [] = refl
-any_split (run ∷ runs) = refl
+any_split runs = grind arith
 
 first_is : (text : List ℕ) → first_padded (pieces text) ≡ begins_padded_run text
 first_is [] = refl
@@ -111,17 +108,12 @@ behind_here text at lt dot h = behind_at text at lt ∙ rw (dot, h) refl
 
 pub behind_dot : (text : List ℕ) (at : ℕ) → at < length text → begins_padded_run (drop (at + 1) text) ≡ false
     → behind_padded (drop at text) ≡ behind_padded (drop (at + 1) text)
-behind_dot text at lt h = behind_at text at lt ∙ rw h (none (get_or text at 0 == 46) (behind_padded (drop (at + 1) text)))
-  where
-    none : (dot more : Bool) → ((dot && false) || more) ≡ more
-    none true more = refl
-    none false more = refl
+behind_dot text at lt h = behind_at text at lt ∙ rw h (grind arith)
 
 pub behind_other : (text : List ℕ) (at : ℕ) → at < length text → (get_or text at 0 ≡ 46 → ⊥)
     → behind_padded (drop at text) ≡ behind_padded (drop (at + 1) text)
 behind_other text at lt h =
-    let other : (get_or text at 0 == 46) ≡ false = grind (arith, nat_tests) in
-    behind_at text at lt ∙ rw other refl
+    behind_at text at lt ∙ grind (arith, nat_tests)
 
 pub behind_end : (text : List ℕ) (at : ℕ) → length text ≤ at → behind_padded (drop at text) ≡ false
 unfolding behind_padded

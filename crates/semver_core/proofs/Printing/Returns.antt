@@ -64,14 +64,11 @@ pieces_joined run (next ∷ runs) h =
 
 pub ids_runs : (ids : List Id) → list_all is_normal ids ≡ true → list_all is_identifier (map id_text ids) ≡ true
 ids_runs [] h = refl
-ids_runs (id ∷ ids) h = rw (id_run id (first_so (is_normal id) (list_all is_normal ids) h), ids_runs ids (second_so (is_normal id) (list_all is_normal ids) h)) refl
+ids_runs (id ∷ ids) h = grind (arith, id_run id, ids_runs ids)
 
 pub ids_spelled : (ids : List Id) → list_all is_normal ids ≡ true → ids ≡ map identifier_of (map id_text ids)
 ids_spelled [] h = refl
-ids_spelled (id ∷ ids) h =
-    let one = id_spelled id (first_so (is_normal id) (list_all is_normal ids) h) in
-    let more = ids_spelled ids (second_so (is_normal id) (list_all is_normal ids) h) in
-    rw (one, ← more) refl
+ids_spelled (id ∷ ids) h = grind (arith, id_spelled id, ids_spelled ids)
 
 pub joined_is : (id : Id) (ids : List Id) → list_all is_normal (id ∷ ids) ≡ true → IsIdentifiers (join_with_byte 46 (map id_text (id ∷ ids))) (id ∷ ids)
 joined_is id ids h =

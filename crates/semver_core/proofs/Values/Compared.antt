@@ -1,7 +1,7 @@
 -- Comparing the identifiers of the program is comparing what contracts see of them, and the order that counts builds.
 use Rattle.semver_core.proofs.Common.{is_empty, Id, id_cmp, id_view, ids_view, Identifier, List, [], ap, false, refl, true, ◌∷◌}
 use Rattle.semver_core.proofs.Common.{◌≡◌, slice_cmp, Equal, Greater, Less, pre_cmp, ordering_then, VersionValue, None, Option}
-use Rattle.semver_core.proofs.Common.{Some, ◌∙◌, kind_between, precedence_total, precedence, VersionDiff, ordering_reverse}
+use Rattle.semver_core.proofs.Common.{Some, arith, ◌∙◌, kind_between, precedence_total, precedence, VersionDiff, ordering_reverse}
 use Rattle.semver_core.proofs.Common.{Ordering, kind_up, same_key}
 use Rattle.semver_core.specs.{Internal.OrderLaws.{id_same, ids_total, then_both}, Values.Order.build_order}
 use Rattle.std.specs.{Cmp.{IsTotalOrder, on_total, then_total}, FinMap.slice_cmp-IsAntisymmetric}
@@ -13,20 +13,16 @@ ids_view_cmp (x ∷ xs) (y ∷ ys) = ap (ordering_then (id_cmp (id_view x) (id_v
 ids_view_cmp xs ys = refl
 
 pub no_pre : (xs ys : List Id) → is_empty xs ≡ true → is_empty ys ≡ true → Equal ≡ pre_cmp xs ys
-no_pre [] [] h k = refl
-no_pre xs ys h k = cc
+no_pre xs ys h k = grind arith
 
 pub first_pre : (xs ys : List Id) → is_empty xs ≡ false → is_empty ys ≡ true → Less ≡ pre_cmp xs ys
-first_pre (x ∷ xs) [] h k = refl
-first_pre xs ys h k = cc
+first_pre xs ys h k = grind arith
 
 pub second_pre : (xs ys : List Id) → is_empty xs ≡ true → is_empty ys ≡ false → Greater ≡ pre_cmp xs ys
-second_pre [] (y ∷ ys) h k = refl
-second_pre xs ys h k = cc
+second_pre xs ys h k = grind arith
 
 pub both_pre : (xs ys : List Id) → is_empty xs ≡ false → is_empty ys ≡ false → slice_cmp id_cmp xs ys ≡ pre_cmp xs ys
-both_pre (x ∷ xs) (y ∷ ys) h k = refl
-both_pre xs ys h k = cc
+both_pre xs ys h k = grind arith
 
 pub ruleset pre_compared = (no_pre, first_pre, second_pre, both_pre)
 

@@ -1,18 +1,15 @@
-use Rattle.std.proofs.Common.{refl}
+use Rattle.std.proofs.Common.{arith}
 use Rattle.semver_core.proofs.Encoding.Checking.{ids_found, ids_last, ids_next}
 use Rattle.semver_core.proofs.keys.check.are_ids.Goals as goal
 
 pub ids-preserved : goal.ids-preserved
 ids-preserved c = record {
-  sound = λ ids. c.ids.invariant.sound (ids_found c.ids.others.now c.in-Some.rest.now c.in-Some.ensures.sound ids);
-  complete = λ ids.
-      ids_next c.ids.others.now c.in-Some.rest.now c.in-Some.ensures.sound c.in-Some.ensures.complete (c.ids.invariant.complete ids);
+  sound = λ ids. c.ids.invariant.sound (ids_found _ _ c.in-Some.ensures.sound ids);
+  complete = λ ids. ids_next _ _ c.in-Some.ensures.sound c.in-Some.ensures.complete (c.ids.invariant.complete ids);
 }
 
 pub returns-then-others-eq1-clause-complete : goal.returns-then-others-eq1-clause-complete
-returns-then-others-eq1-clause-complete c = λ ids.
-    rw (ids_last c.ids.others.now c.in_default.ensures.complete (c.ids.invariant.complete ids)) refl
+returns-then-others-eq1-clause-complete c = grind (arith, ids_last)
 
 pub returns-else-others-eq1-clause-complete : goal.returns-else-others-eq1-clause-complete
-returns-else-others-eq1-clause-complete c = λ ids.
-    rw (ids_last c.ids.others.now c.in_default.ensures.complete (c.ids.invariant.complete ids)) refl
+returns-else-others-eq1-clause-complete c = grind (arith, ids_last)

@@ -1,12 +1,13 @@
 use Rattle.std.proofs.Common.{arith}
-use Rattle.semver_core.proofs.Encoding.Reading.{eight_spelled}
+use Rattle.std.proofs.lemmas.Nat.{be_bytes_8}
+use Rattle.semver_core.proofs.Encoding.Reading.{spelled}
 use Rattle.semver_core.proofs.keys.read.read_eight.Goals as goal
 
 pub returns-clause-sound : goal.returns-clause-sound
-returns-clause-sound c = (
-  omega (arith, c.if-number.false),
-  omega (arith, c.from_be_bytes-number.type_inv),
-  eight_spelled c.args.bytes.now c.in-Some.number.now c.in-Some.rest.now c.from_be_bytes-number.result
-      c.in-Some.ensures.cases.0 c.in-Some.ensures.cases.1 c.in-Some.ensures.cases.2
-      (λ i. omega (arith, c.type_inv.bytes i)) c.from_be_bytes-number.ensures,
-)
+returns-clause-sound c =
+    let (front, back, count) = c.in-Some.ensures.cases in (
+      omega (arith, c.if-number.false),
+      omega (arith, c.from_be_bytes-number.type_inv),
+      spelled 8 _ _ _ _ front back count (λ i. omega (arith, c.type_inv.bytes i))
+          (λ long small. be_bytes_8 _ _ long small c.from_be_bytes-number.ensures),
+    )
