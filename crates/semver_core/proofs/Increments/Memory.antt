@@ -1,6 +1,6 @@
 -- When an allocation may fail in `inc`.
-use Rattle.semver_core.proofs.Common.{arith, Err, Failure, Fault, IfOk, IncrementError, MayAllocate, Memory, MemoryOnlyIf, Ok, Overflow}
-use Rattle.semver_core.proofs.Common.{Refused, Result, VersionValue, ◌≢◌}
+use Rattle.semver_core.proofs.Common.{arith, Err, Failure, Fault, IfOk, IncrementError, MemoryOnlyIf, Overflow}
+use Rattle.semver_core.proofs.Common.{Result, VersionValue, ◌≢◌}
 use Rattle.semver_core.specs.Internal.IncrementSteps.{IsAnswer}
 
 -- in the words of the public clauses

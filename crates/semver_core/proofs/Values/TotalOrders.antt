@@ -1,5 +1,5 @@
 -- A total order, by what `is_le` answers.
-use Rattle.semver_core.proofs.{Common.{Equal, Greater, Less, Ordering, ap, arith, is_le, not, not-true, ordering_reverse, sym}}
+use Rattle.semver_core.proofs.Common.{Equal, Ordering, ap, arith, is_le, not, not-true, sym}
 use Rattle.semver_core.proofs.{Common.{true, upto, ◌||◌, ◌∙◌, ◌≡◌}, CutLaws.{lt_not_gt, tells}}
 use Rattle.std.specs.Cmp.{IsTotalOrder}
 
