@@ -43,26 +43,12 @@ dotted_read limit run more n is stop = component_read limit run more n is stop
 pub bare_triple : (limit : ℕ) (text : List ℕ) (M m p : ℕ) (rest : List ℕ) → IsTriple limit text M m p rest
     → Some (patch_front (Some M) (Some m) [] (Some (Some p, rest))) ≡ bare_front limit text
 unfolding bare_front
-bare_triple limit text M m p rest is =
-    let patched = is.patch ++ rest in
-    let minored = is.minor ++ 46 ∷ patched in
-    rw (
-      is.divided,
-      component_read limit is.major (46 ∷ minored) M is.major_is refl,
-      dotted_read limit is.minor (46 ∷ patched) m is.minor_is refl,
-      dotted_read limit is.patch rest p is.patch_is.number is.patch_is.ended,
-    ) refl
+bare_triple limit text M m p rest is = grind (arith, component_read, dotted_read)
 
 -- no partial begins otherwise
 pub bare_nothing : (limit : ℕ) (text : List ℕ) → begins (λ b. is_wildcard b || is_ascii_digit b) text ≡ false → None ≡ bare_front limit text
 unfolding bare_front component_front Spec.number_of
-bare_nothing limit [] h = refl
-bare_nothing limit (c ∷ rest) h = elim (cases_Bool (is_wildcard c)) [
-  | inl wild ↦ absurd (false≢true (sym h ∙ ap (λ b. b || is_ascii_digit c) wild))
-  | inr other ↦
-      let digit = rw other at h in
-      rw (other, digit) refl
-]
+bare_nothing limit text h = grind arith
 
 pub bare-sound : (limit : ℕ) (text : List ℕ) (p : Partial) (more : List ℕ) → bare_front limit text ≡ Some (p, more) → (x : List ℕ)
     × (text ≡ x ++ more) × AreComponents limit x p
@@ -125,10 +111,7 @@ caret-sound limit text r h =
 -- what stands behind a tilde
 tilde-by : (limit : ℕ) (text : List ℕ) (p : Partial) (x more : List ℕ) → (tilde_sign text).1 ≡ x ++ more → AreComponents limit x p
     → Worded limit (126 ∷ text) (tilde (tilde_sign text).0 p, more)
-tilde-by limit text p x more e h = elim (tilde-cases text) [
-  | inl alone ↦ rw alone (126 ∷ x, ap (λ (t : List ℕ). 126 ∷ t) (rw alone at e), tilde_word x p h)
-  | inr y ↦ rw y.2 (126 ∷ 62 ∷ x, rw y.1 (ap (λ (t : List ℕ). 126 ∷ 62 ∷ t) (rw y.2 at e)), tilde_greater_word x p h)
-]
+tilde-by limit text p x more e h = grind (arith, tilde-cases, tilde_word, tilde_greater_word)
 
 tilde-sound : (limit : ℕ) (text : List ℕ) (r : Word × List ℕ) → tilde_front limit text ≡ Some r → Worded limit (126 ∷ text) r
 unfolding tilde_front
@@ -289,9 +272,7 @@ Fronted limit text f = (x : List ℕ) × (text ≡ x ++ f.1) × AreCommonParts l
 -- the last part
 last-sound : (limit : ℕ) (text : List ℕ) (s : Span VersionValue) (more : List ℕ) → part_front limit text ≡ Some (s, more)
     → Fronted limit text (s ∷ [], more)
-last-sound limit text s more h =
-    let p = part-sound limit text (s, more) h in
-    (p.0, p.1, one_part p.0 s p.2)
+last-sound limit text s more h = grind (arith, part-sound, one_part)
 
 -- a part before others
 next-sound : (limit : ℕ) (text : List ℕ) (s : Span VersionValue) (more next : List ℕ) (f : List (Span VersionValue) × List ℕ)
@@ -362,30 +343,19 @@ read-once limit text list h =
     subst (λ (t : List ℕ). common_fronts limit t ≡ Some (list, [])) (append-nil text) e
 
 all-read : (limit : ℕ) (text : List ℕ) (list : List (Span VersionValue)) → common_parts limit text ≡ Some list → AreCommonParts limit text list
-all-read limit text list h =
-    let f = bind_some (common_fronts limit text) _ list h in
-    let r = front_is_read limit text f.0 f.1 in
-    grind (arith, append-nil)
+all-read limit text list h = grind (arith, front_is_read, append-nil)
 
 pub common_parts_are_read : (limit : ℕ) (text : List ℕ) (list : List (Span VersionValue)) → (common_parts limit text ≡ Some list) ↔ AreCommonParts limit text list
-common_parts_are_read limit text list = (
-  all-read limit text list,
-  λ h. rw (read-once limit text list h) refl,
-)
+common_parts_are_read limit text list = grind (arith, all-read, read-once)
 
 -- what was read at the front is the whole text exactly where nothing follows it
 pub whole-read : (limit : ℕ) (text : List ℕ) (list : List (Span VersionValue)) (rest : List ℕ) → common_fronts limit text ≡ Some (list, rest)
     → length rest ≡ 0 → AreCommonParts limit text list
-whole-read limit text list [] h none =
-    let r = front_is_read limit text (list, []) h in
-    subst (λ (t : List ℕ). AreCommonParts limit t list) (sym (r.1 ∙ append-nil r.0)) r.2
-whole-read limit text list (b ∷ rest) h none = absurd (omega (arith, none))
+whole-read limit text list rest h none = grind (arith, nat_tests, common_steps, front_is_read, append-nil)
 
 pub part-read : (limit : ℕ) (text : List ℕ) (list : List (Span VersionValue)) (rest : List ℕ) → common_fronts limit text ≡ Some (list, rest)
     → 0 < length rest → NoValue (AreCommonParts limit text)
-part-read limit text list rest h some other is =
-    let e = same_Some _ _ (sym h ∙ read-once limit text other is) in
-    absurd (omega (arith, some, ap (λ (f : List (Span VersionValue) × List ℕ). length f.1) e))
+part-read limit text list rest h some other is = grind (arith, read-once)
 
 pub none-read : (limit : ℕ) (text : List ℕ) → common_fronts limit text ≡ None → NoValue (AreCommonParts limit text)
 none-read limit text h list is = cc (h, read-once limit text list is)
@@ -538,8 +508,7 @@ loop-bars limit text found new rest left next s bars r =
 pub common_so : (P : List (Span VersionValue) → Type 0) (limit : ℕ) (text : List ℕ) (list : List (Span VersionValue))
     → IsCommonRange limit text list → IsSomeAnd (if_any list) P
     → (r : List (Span VersionValue)) × IsCommonRange limit text r × P r
-common_so P limit text [] is h = absurd (omega (arith, list-some limit text [] is.0))
-common_so P limit text (s ∷ list) is h = (s ∷ list, is, h)
+common_so P limit text list is h = grind (arith, nat_tests, common_steps, list-some)
 
 pub loop-goes : (limit : ℕ) (text : List ℕ) (found new : List (Span VersionValue)) (rest left next : List ℕ)
     → Step limit found new rest left
@@ -563,9 +532,7 @@ taken-is text x rest h =
 
 pub front-taken : (limit : ℕ) (text : List ℕ) (list : List (Span VersionValue)) (rest : List ℕ) → common_fronts limit text ≡ Some (list, rest)
     → (length rest ≤ length text) × AreCommonParts limit (take (length text - length rest) text) list
-front-taken limit text list rest h =
-    let r = front_is_read limit text (list, rest) h in
-    (omega (arith, ap length r.1, length-append r.0 rest), rw (taken-is text r.0 rest r.1) r.2)
+front-taken limit text list rest h = grind (arith, front_is_read, length-append, taken-is)
 
 -- the bytes of the parts
 abbrev is_range_byte : ℕ → Bool
