@@ -286,9 +286,9 @@ next-sound limit text s more next f h k r =
     (x, whole, more_parts p.0 b.before b.after r.0 s f.0 p.2 b.is_before b.is_after r.2)
 
 -- less is left behind the bars
-pub next-shorter : (limit : ℕ) (text : List ℕ) (s : Span VersionValue) (more next : List ℕ) → part_front limit text ≡ Some (s, more) → after_bars more ≡ Some next
-    → length next < length text
-next-shorter limit text s more next h k = grind (arith, nat_tests, length-append, bars-sound more next k, part-sound)
+next-shorter : (limit : ℕ) (text next : List ℕ) (p : Span VersionValue × List ℕ) → part_front limit text ≡ Some p
+    → after_bars p.1 ≡ Some next → length next < length text
+next-shorter limit text next p h k = grind (arith, nat_tests, length-append, bars-sound p.1 next k, part-sound)
 
 -- what follows a part, and the parts behind it, which are read so
 behind-sound : (limit : ℕ) (text : List ℕ) (f : List (Span VersionValue) × List ℕ) (p : Span VersionValue × List ℕ) → part_front limit text ≡ Some p
@@ -417,19 +417,6 @@ second-read limit text a b rest more h second k = rw (← h) (go (interval prece
         ≡ part_read more (o >>? λ s. interval precedence b >>? λ t. meet precedence s t)
     go o = grind (arith, last)
 
--- what was added, and that nothing was
-pub record Added (done new : List (Span VersionValue)) (o : Front (Span VersionValue)) (rest : List ℕ) : Type 0 where
-  pub interval_is : Span VersionValue
-  pub found : o ≡ Some (interval_is, rest)
-  pub list : new ≡ done ++ interval_is ∷ []
-
-pub passed-some : (done new : List (Span VersionValue)) (o : Front (Span VersionValue)) (r : Option (List ℕ)) (rest : List ℕ) → behind r new ≡ passed done o → r ≡ Some rest
-    → Added done new o rest
-passed-some done new o r rest h k = grind arith
-
-pub passed-none : (done new : List (Span VersionValue)) (o : Front (Span VersionValue)) (r : Option (List ℕ)) → behind r new ≡ passed done o → r ≡ None → o ≡ None
-passed-none done new o r h k = grind arith
-
 -- ---- one part of a common text after another
 
 abbrev pub HasBars : List ℕ → Type 0
@@ -439,88 +426,72 @@ pub behind-bars : (front rest : List ℕ) → HasBars rest → HasBars (front ++
 behind-bars [] rest h = h
 behind-bars (b ∷ front) rest h = grind (arith, behind-bars front rest h)
 
+-- how many parts are allowed for does not matter, where there is room for each byte
+fronts-enough : (limit n m : ℕ) (text : List ℕ) → length text ≤ n → length text ≤ m
+    → fronts_within limit n text ≡ fronts_within limit m text
+unfolding fronts_within part_front
+fronts-enough limit zero zero text a b = refl
+fronts-enough limit zero (suc m) [] a b = refl
+fronts-enough limit zero (suc m) (c ∷ text) a b = absurd (omega arith)
+fronts-enough limit (suc n) zero [] a b = refl
+fronts-enough limit (suc n) zero (c ∷ text) a b = absurd (omega arith)
+fronts-enough limit (suc n) (suc m) text a b = grind (arith, next-shorter, fronts-enough limit n m)
+
+-- the intervals of a text are that of the part at its front, and those of what follows its bars
+fronts-step : (limit : ℕ) (text : List ℕ) → common_fronts limit text
+    ≡ (part_front limit text >>? λ part. part_before part.0 part.1 (after_bars part.1) (λ next. common_fronts limit next))
+unfolding fronts_within
+fronts-step limit text =
+    fronts-enough limit (length text) (suc (length text)) text (omega arith) (omega arith)
+    ∙ grind (arith, next-shorter, fronts-enough limit (length text))
+
 -- the intervals that were found, and those that are read in what is left of the text, are those of the whole text
 pub record Reaches (limit : ℕ) (text : List ℕ) (found : List (Span VersionValue)) (rest : List ℕ) : Type 0 where
-  pub bytes : ℕ
-  pub room : length rest ≤ bytes
-  pub whole : (fronts_within limit bytes rest >>? λ tail. Some (found ++ tail.0, tail.1)) ≡ common_fronts limit text
-  pub some : (found ≡ []) ⊎ HasBars text
+  pub whole : (common_fronts limit rest >>? λ tail. Some (found ++ tail.0, tail.1)) ≡ common_fronts limit text
   pub within : HasBars rest → HasBars text
 
 pub loop-starts : (limit : ℕ) (text rest : List ℕ) (found : List (Span VersionValue)) → rest ≡ text → found ≡ []
     → Reaches limit text found rest
 loop-starts limit text rest found e f = grind arith
 
--- ---- one part
+-- the reader was at a place, and found no part there
+pub loop-no_part : (limit : ℕ) (text : List ℕ) (found new : List (Span VersionValue)) (rest : List ℕ)
+    → behind None new ≡ passed found (part_front limit rest) → Reaches limit text found rest
+    → common_fronts limit text ≡ None
+loop-no_part limit text found new rest h r = grind (arith, fronts-step limit rest)
 
-stops-part : (limit n : ℕ) (rest : List ℕ) → part_front limit rest ≡ None → fronts_within limit n rest ≡ None
-unfolding fronts_within
-stops-part limit n rest h = grind arith
+-- it added the interval of a part, which no bars follow
+pub loop-ends : (limit : ℕ) (text : List ℕ) (found new : List (Span VersionValue)) (rest left : List ℕ)
+    → behind (Some left) new ≡ passed found (part_front limit rest) → after_bars left ≡ None
+    → Reaches limit text found rest → common_fronts limit text ≡ Some (new, left)
+loop-ends limit text found new rest left added none r = grind (arith, fronts-step limit rest)
 
-ends-there : (limit n : ℕ) (rest left : List ℕ) (s : Span VersionValue) → length rest ≤ n → part_front limit rest ≡ Some (s, left)
-    → after_bars left ≡ None → fronts_within limit n rest ≡ Some (s ∷ [], left)
-unfolding fronts_within part_front
-ends-there limit n rest left s h k m = grind arith
-
-goes-on : (limit n : ℕ) (rest left next : List ℕ) (s : Span VersionValue) → length rest ≤ n
-    → part_front limit rest ≡ Some (s, left) → after_bars left ≡ Some next → (m : ℕ) × (length next ≤ m)
-    × (fronts_within limit n rest ≡ (fronts_within limit m next >>? λ more. Some (s ∷ more.0, more.1)))
-unfolding fronts_within part_front
-goes-on limit zero [] left next s l h k = cc h
-goes-on limit zero (b ∷ rest) left next s l h k = absurd (omega arith)
-goes-on limit (suc n) rest left next s l h k = (n, omega (arith, next-shorter limit rest s left next h k), grind arith)
-
--- ---- the steps of the loop
-
--- the reader was at a place, and its next step added a part
-pub record Step (limit : ℕ) (found new : List (Span VersionValue)) (rest left : List ℕ) : Type 0 where
-  pub after : Option (List ℕ)
-  pub added : behind after new ≡ passed found (part_front limit rest)
-  pub there : after ≡ Some left
-
-added-by : (limit : ℕ) (found new : List (Span VersionValue)) (rest left : List ℕ) → Step limit found new rest left
-    → Added found new (part_front limit rest) left
-added-by limit found new rest left s = passed-some found new (part_front limit rest) s.after left s.added s.there
-
-pub loop-no_part : (limit : ℕ) (text : List ℕ) (found new : List (Span VersionValue)) (rest : List ℕ) (after : Option (List ℕ)) → behind after new ≡ passed found (part_front limit rest)
-    → after ≡ None → Reaches limit text found rest → common_fronts limit text ≡ None
-loop-no_part limit text found new rest after h e r =
-    grind (arith, stops-part limit r.bytes rest (passed-none found new (part_front limit rest) after h e))
-
-pub loop-ends : (limit : ℕ) (text : List ℕ) (found new : List (Span VersionValue)) (rest left : List ℕ) → Step limit found new rest left
-    → after_bars left ≡ None → Reaches limit text found rest → common_fronts limit text ≡ Some (new, left)
-loop-ends limit text found new rest left s none r =
-    let a = added-by limit found new rest left s in
-    grind (arith, ends-there limit r.bytes rest left a.interval_is r.room a.found none)
-
--- bars stand behind a part
-bars-there : (limit : ℕ) (rest left next : List ℕ) (s : Span VersionValue) → part_front limit rest ≡ Some (s, left)
-    → after_bars left ≡ Some next → HasBars rest
-bars-there limit rest left next s h k =
-    grind (arith, nat_tests, behind-bars, bars-sound left next k, part-sound limit rest (s, left) h)
+-- bars stand behind it
+bars-there : (limit : ℕ) (rest next : List ℕ) (p : Span VersionValue × List ℕ) → part_front limit rest ≡ Some p
+    → after_bars p.1 ≡ Some next → HasBars rest
+bars-there limit rest next p h k = grind (arith, nat_tests, behind-bars, bars-sound p.1 next k, part-sound limit rest p h)
 
 pub loop-bars : (limit : ℕ) (text : List ℕ) (found new : List (Span VersionValue)) (rest left next : List ℕ)
-    → Step limit found new rest left → after_bars left ≡ Some next → Reaches limit text found rest → HasBars text
-loop-bars limit text found new rest left next s bars r =
-    grind (arith, nat_tests, bars-there, added-by limit found new rest left s)
+    → behind (Some left) new ≡ passed found (part_front limit rest) → after_bars left ≡ Some next
+    → Reaches limit text found rest → HasBars text
+loop-bars limit text found new rest left next added bars r = grind (arith, nat_tests, bars-there)
+
+pub loop-goes : (limit : ℕ) (text : List ℕ) (found new : List (Span VersionValue)) (rest left next : List ℕ)
+    → behind (Some left) new ≡ passed found (part_front limit rest) → after_bars left ≡ Some next
+    → Reaches limit text found rest → Reaches limit text new next
+loop-goes limit text found new rest left next added bars r =
+    grind (arith, append_assoc, fronts-step limit rest, loop-bars limit text found new rest left next added bars r)
+
+pub loop-shorter : (limit : ℕ) (found new : List (Span VersionValue)) (rest left next : List ℕ)
+    → behind (Some left) new ≡ passed found (part_front limit rest) → after_bars left ≡ Some next
+    → length next < length rest
+loop-shorter limit found new rest left next added bars = grind (arith, nat_tests, next-shorter)
 
 -- what holds of the list of a common text holds of a list that it means
 pub common_so : (P : List (Span VersionValue) → Type 0) (limit : ℕ) (text : List ℕ) (list : List (Span VersionValue))
     → IsCommonRange limit text list → IsSomeAnd (if_any list) P
     → (r : List (Span VersionValue)) × IsCommonRange limit text r × P r
 common_so P limit text list is h = grind (arith, nat_tests, common_steps, list-some)
-
-pub loop-goes : (limit : ℕ) (text : List ℕ) (found new : List (Span VersionValue)) (rest left next : List ℕ)
-    → Step limit found new rest left
-    → after_bars left ≡ Some next → Reaches limit text found rest → Reaches limit text new next
-loop-goes limit text found new rest left next s bars r =
-    let a = added-by limit found new rest left s in
-    let g = goes-on limit r.bytes rest left next a.interval_is r.room a.found bars in
-    let b = loop-bars limit text found new rest left next s bars r in
-    grind (arith, append_assoc, b)
-
-pub loop-shorter : (limit : ℕ) (found new : List (Span VersionValue)) (rest left next : List ℕ) → Step limit found new rest left → after_bars left ≡ Some next → length next < length rest
-loop-shorter limit found new rest left next s bars = grind (arith, nat_tests, next-shorter, added-by limit found new rest left s)
 
 -- ---- a text at whose front parts stand
 
