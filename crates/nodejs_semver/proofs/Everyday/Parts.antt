@@ -8,7 +8,7 @@ use Rattle.std.proofs.{Math.Seq.take-append_seam, lemmas.Str.{Ascii.{IsAscii-con
 use Rattle.std.specs.Str.{IsAscii}
 use Rattle.nodejs_semver.proofs.Common.{length-append, meet, subst, sym, nat_tests, passed, plain, precedence, refl, same_Some, suc, table, tilde, tilde_sign}
 use Rattle.nodejs_semver.proofs.{Common.{true, word_read, zero, ℕ, ◌++◌, ◌<◌, ◌==◌, ◌↔◌, ◌∙◌, ◌∷◌, ◌≡◌, ◌≤◌, ◌⊎◌}, Everyday.Texts.list-some}
-use Rattle.nodejs_semver.proofs.{Everyday.{Texts.part-tidy, Words.{is_part_byte, no-equal, no-greater, sign-begins}}, Reading.PartialLaw.{components-begin, components-open, is_open}}
+use Rattle.nodejs_semver.proofs.{Everyday.{Texts.part-tidy, Words.{is_part_byte, no-equal, no-greater, sign-begins}}, Reading.PartialLaw.{components-begin, components-bytes, is_partial_byte}}
 use Rattle.nodejs_semver.proofs.Reading.{PartialLaw.{components-read, components-then}, WordLaw.{Signed, sign-is, tilde-cases}}
 use Rattle.nodejs_semver.specs.Internal.CommonFronts.{bare_front, begins_dash, both_of, caret_front, common_fronts, common_parts, common_range, fronts_within, onto, part_before}
 use Rattle.nodejs_semver.specs.Internal.{CommonFronts.{part_front, part_read, partials_front, tilde_front}, Words.comparator_at}
@@ -505,43 +505,36 @@ pub front-taken : (limit : ℕ) (text : List ℕ) (list : List (Span VersionValu
     → (length rest ≤ length text) × AreCommonParts limit (take (length text - length rest) text) list
 front-taken limit text list rest h = grind (arith, front_is_read, length-append, taken-is)
 
--- the bytes of the parts
+-- the bytes of the parts: those of partials, spaces and bars
 abbrev is_range_byte : ℕ → Bool
-is_range_byte b = is_part_byte b || b == 124
+is_range_byte b = is_partial_byte b || (b == 32 || b == 124)
+
+sign-bytes : (c : Comparator) (sign : List ℕ) → IsSign c sign → list_all is_range_byte sign ≡ true
+sign-bytes c sign is = grind arith
+
+comparison-bytes : (limit : ℕ) (x : List ℕ) (w : Word) → IsComparison limit x w → list_all is_range_byte x ≡ true
+comparison-bytes limit x w (comparison c sign text p is h) =
+    grind (arith, all_weaker, list_all-append, sign-bytes c sign is, components-bytes limit text p h)
+
+word-bytes : (limit : ℕ) (x : List ℕ) (w : Word) → IsCommonWord limit x w → list_all is_range_byte x ≡ true
+word-bytes limit x w h = grind (arith, all_weaker, list_all-append, components-bytes, comparison-bytes)
+
+part-bytes : (limit : ℕ) (x : List ℕ) (s : Span VersionValue) → IsCommonPart limit x s → list_all is_range_byte x ≡ true
+part-bytes limit x s h = grind (arith, list_all-append, word-bytes, comparison-bytes)
 
 range-bytes : (limit : ℕ) (text : List ℕ) (list : List (Span VersionValue)) → AreCommonParts limit text list
     → list_all is_range_byte text ≡ true
-range-bytes limit text list (one_part part s is) = grind (arith, all_weaker, part-tidy limit part s is)
+range-bytes limit text list (one_part part s is) = part-bytes limit part s is
 range-bytes limit text list (more_parts part before after rest s others is b a more) =
-    grind (arith, all_weaker, list_all-append, part-tidy limit part s is, range-bytes limit rest others more)
+    grind (arith, list_all-append, part-bytes limit part s is, range-bytes limit rest others more)
 
-sign-open : (c : Comparator) (sign : List ℕ) → IsSign c sign → list_all is_open sign ≡ true
-sign-open c sign is = grind arith
-
-comparison-open : (limit : ℕ) (x : List ℕ) (w : Word) → IsComparison limit x w → list_all is_open x ≡ true
-comparison-open limit x w (comparison c sign text p is h) =
-    grind (arith, list_all-append, sign-open c sign is, components-open limit text p h)
-
-word-open : (limit : ℕ) (x : List ℕ) (w : Word) → IsCommonWord limit x w → list_all is_open x ≡ true
-word-open limit x w h = grind (arith, list_all-append, components-open, comparison-open)
-
-part-open : (limit : ℕ) (x : List ℕ) (s : Span VersionValue) → IsCommonPart limit x s → list_all is_open x ≡ true
-part-open limit x s h = grind (arith, list_all-append, word-open, comparison-open)
-
-parts-open : (limit : ℕ) (text : List ℕ) (list : List (Span VersionValue)) → AreCommonParts limit text list
-    → list_all is_open text ≡ true
-parts-open limit text list (one_part part s is) = part-open limit part s is
-parts-open limit text list (more_parts part before after rest s others is b a more) =
-    grind (arith, list_all-append, part-open limit part s is, parts-open limit rest others more)
-
-plain-bytes : (text : List ℕ) → list_all is_range_byte text ≡ true → list_all is_open text ≡ true
-    → list_any (λ b. b == 59 || b == 10) text ≡ false
-plain-bytes [] h k = refl
-plain-bytes (b ∷ text) h k = grind (arith, nat_tests, plain-bytes text)
+plain-bytes : (text : List ℕ) → list_all is_range_byte text ≡ true → list_any (λ b. b == 59 || b == 10) text ≡ false
+plain-bytes [] h = refl
+plain-bytes (b ∷ text) h = grind (arith, nat_tests, plain-bytes text)
 
 pub parts-plain : (limit : ℕ) (text : List ℕ) (list : List (Span VersionValue)) → AreCommonParts limit text list
     → list_any (λ b. b == 59 || b == 10) text ≡ false
-parts-plain limit text list h = plain-bytes text (range-bytes limit text list h) (parts-open limit text list h)
+parts-plain limit text list h = plain-bytes text (range-bytes limit text list h)
 
 bytes-ascii : (text : List ℕ) → list_all is_range_byte text ≡ true → IsAscii text
 bytes-ascii [] h = IsAscii-nil

@@ -1,7 +1,7 @@
 -- The partial that is read at the front of a text is the longest one that is written there.
 use Rattle.nodejs_semver.proofs.Common.{AreComponents, Front, Id, IsBuild, IsCharBoundary-after_ascii, IsIdentifiers, IsNumber, IsPreRelease}
 use Rattle.nodejs_semver.proofs.Common.{IsUtf8, IsUtf8-drop, List, None, Option, Partial, Sign, Some, Word, [], all_weaker, ap}
-use Rattle.nodejs_semver.proofs.Common.{Bool, append-nil, append_assoc, arith, begins, bind_some, cases_Bool, common_steps, not}
+use Rattle.nodejs_semver.proofs.Common.{Bool, ◌&&◌, append-nil, append_assoc, arith, begins, bind_some, cases_Bool, common_steps, not}
 use Rattle.nodejs_semver.proofs.Common.{component_front, cond_some, drop, drop_at, drop_spaces, drop_spaces-blank, drop_spaces-none, encode_utf8_all}
 use Rattle.nodejs_semver.proofs.Common.{eqb-true, false, from_boundary, inl, inr, is_ascii_digit, is_boundary, is_whitespace, length}
 use Rattle.nodejs_semver.proofs.Common.{length-append, list_all, nat_lt, nat_tests, partial_front, pieces, refl, same_Some, sign_at}
@@ -179,50 +179,37 @@ components-then limit x more p (three c d e pre build q h k l quiet_e m n) quiet
 
 -- ---- the bytes of a partial
 
-identifiers-solid : (text : List ℕ) → tail_runs (pieces text) ≡ true → list_all is_solid text ≡ true
-identifiers-solid [] h = refl
-identifiers-solid (b ∷ rest) h = grind (arith, nat_tests, common_steps, runs_tail, first_char, tail_onto, identifiers-solid rest)
+-- a visible character of ASCII other than the bar and the `;`
+abbrev pub is_partial_byte : ℕ → Bool
+is_partial_byte b = is_solid b && not (b == 59)
 
-list-solid : (text : List ℕ) (l : List Id) → IsIdentifiers text l → list_all is_solid text ≡ true
-list-solid text l h = identifiers-solid text (runs_tail (pieces text) h.runs)
+identifiers-bytes : (text : List ℕ) → tail_runs (pieces text) ≡ true → list_all is_partial_byte text ≡ true
+identifiers-bytes [] h = refl
+identifiers-bytes (b ∷ rest) h = grind (arith, nat_tests, common_steps, runs_tail, first_char, tail_onto, identifiers-bytes rest)
 
-pub number-solid : (limit : ℕ) (x : List ℕ) (v : Option ℕ) → IsComponent limit x v → list_all is_solid x ≡ true
-number-solid limit x v h = grind (arith, all_weaker)
+list-bytes : (text : List ℕ) (l : List Id) → IsIdentifiers text l → list_all is_partial_byte text ≡ true
+list-bytes text l h = identifiers-bytes text (runs_tail (pieces text) h.runs)
+
+number-bytes : (limit : ℕ) (x : List ℕ) (v : Option ℕ) → IsComponent limit x v → list_all is_partial_byte x ≡ true
+number-bytes limit x v h = grind (arith, all_weaker)
+
+pre-bytes : (p rest : List ℕ) (l : List Id) → IsPreRelease p rest l → list_all is_partial_byte p ≡ true
+pre-bytes p rest l h = grind (arith, list-bytes)
+
+build-bytes : (b rest : List ℕ) (l : List Id) → IsBuild b rest l → list_all is_partial_byte b ≡ true
+build-bytes b rest l h = grind (arith, list-bytes)
+
+pub components-bytes : (limit : ℕ) (x : List ℕ) (p : Partial) → AreComponents limit x p → list_all is_partial_byte x ≡ true
+components-bytes limit x p h = grind (arith, number-bytes, all-join, pre-bytes, build-bytes)
 
 pub digits-solid : (limit : ℕ) (d : List ℕ) (n : ℕ) → IsNumber limit d n → list_all is_solid d ≡ true
-digits-solid limit d n h = number-solid limit d (Some n) (number d n h)
+digits-solid limit d n h = grind (arith, all_weaker)
 
 pub pre-solid : (p rest : List ℕ) (l : List Id) → IsPreRelease p rest l → list_all is_solid p ≡ true
-pre-solid p rest l h = grind (arith, list-solid)
+pre-solid p rest l h = grind (arith, all_weaker, pre-bytes)
 
 pub build-solid : (b rest : List ℕ) (l : List Id) → IsBuild b rest l → list_all is_solid b ≡ true
-build-solid b rest l h = grind (arith, list-solid)
-
-pub components-solid : (limit : ℕ) (x : List ℕ) (p : Partial) → AreComponents limit x p → list_all is_solid x ≡ true
-components-solid limit x p h = grind (arith, number-solid, all-join, pre-solid, build-solid)
-
--- no `;` stands in a partial
-abbrev pub is_open : ℕ → Bool
-is_open b = not (b == 59)
-
-identifiers-open : (text : List ℕ) → tail_runs (pieces text) ≡ true → list_all is_open text ≡ true
-identifiers-open [] h = refl
-identifiers-open (b ∷ rest) h = grind (arith, nat_tests, common_steps, runs_tail, first_char, tail_onto, identifiers-open rest)
-
-list-open : (text : List ℕ) (l : List Id) → IsIdentifiers text l → list_all is_open text ≡ true
-list-open text l h = identifiers-open text (runs_tail (pieces text) h.runs)
-
-number-open : (limit : ℕ) (x : List ℕ) (v : Option ℕ) → IsComponent limit x v → list_all is_open x ≡ true
-number-open limit x v h = grind (arith, all_weaker)
-
-pre-open : (p rest : List ℕ) (l : List Id) → IsPreRelease p rest l → list_all is_open p ≡ true
-pre-open p rest l h = grind (arith, list-open)
-
-build-open : (b rest : List ℕ) (l : List Id) → IsBuild b rest l → list_all is_open b ≡ true
-build-open b rest l h = grind (arith, list-open)
-
-pub components-open : (limit : ℕ) (x : List ℕ) (p : Partial) → AreComponents limit x p → list_all is_open x ≡ true
-components-open limit x p h = grind (arith, number-open, all-join, pre-open, build-open)
+build-solid b rest l h = grind (arith, all_weaker, build-bytes)
 
 -- ---- each word takes a byte or more, so the list of words is a recursion
 
