@@ -2,13 +2,13 @@
 use Rattle.nodejs_semver.proofs.Common.{AreCommonParts, AreComponents, Bound, Comparator, Front, IsSign, IsSomeAnd, List, None, Option, Partial, Some}
 use Rattle.nodejs_semver.proofs.Common.{Span, Unbounded, VersionValue, Word, [], above, ap, append-nil, append_assoc, arith, at_most, begins}
 use Rattle.nodejs_semver.proofs.Common.{begins_second, below, bind_some, cases_Bool, common_steps, comparison_front, comparisons_front, drop}
-use Rattle.nodejs_semver.proofs.Common.{eqb-true, false, false≢true, has_bars, hyphen, if_any, if◌then◌else◌, inl, inr, interval, is_sign, length}
+use Rattle.nodejs_semver.proofs.Common.{eqb-true, false, has_bars, hyphen, if_any, if◌then◌else◌, inl, inr, interval, is_sign, length}
 use Rattle.nodejs_semver.proofs.Common.{Bool, IsUtf8, all_weaker, list_all, list_all-append, list_any, take, ◌-◌, ◌||◌}
 use Rattle.std.proofs.{Math.Seq.take-append_seam, lemmas.Str.{Ascii.{IsAscii-cons, IsAscii-nil}, IsUtf8-from_ascii}}
 use Rattle.std.specs.Str.{IsAscii}
-use Rattle.nodejs_semver.proofs.Common.{length-append, meet, subst, sym, nat_tests, passed, plain, precedence, refl, same_Some, suc, table, tilde, tilde_sign}
-use Rattle.nodejs_semver.proofs.{Common.{true, word_read, zero, ℕ, ◌++◌, ◌<◌, ◌==◌, ◌↔◌, ◌∙◌, ◌∷◌, ◌≡◌, ◌≤◌, ◌⊎◌}, Everyday.Texts.list-some}
-use Rattle.nodejs_semver.proofs.{Everyday.{Texts.part-tidy, Words.{is_part_byte, no-equal, no-greater, sign-begins}}, Reading.PartialLaw.{components-begin, components-bytes, is_partial_byte}}
+use Rattle.nodejs_semver.proofs.Common.{length-append, meet, subst, nat_tests, passed, plain, precedence, refl, same_Some, suc, table, tilde, tilde_sign}
+use Rattle.nodejs_semver.proofs.{Common.{true, word_read, zero, ℕ, ◌++◌, ◌<◌, ◌==◌, ◌↔◌, ◌∙◌, ◌∷◌, ◌≡◌, ◌≤◌}, Everyday.Texts.list-some}
+use Rattle.nodejs_semver.proofs.{Everyday.{Texts.part-tidy, Words.{no-equal, no-greater, sign-begins}}, Reading.PartialLaw.{components-begin, components-bytes, is_partial_byte}}
 use Rattle.nodejs_semver.proofs.Reading.{PartialLaw.{components-read, components-then}, WordLaw.{Signed, sign-is, tilde-cases}}
 use Rattle.nodejs_semver.specs.Internal.CommonFronts.{bare_front, begins_dash, both_of, caret_front, common_fronts, common_parts, common_range, fronts_within, onto, part_before}
 use Rattle.nodejs_semver.specs.Internal.{CommonFronts.{part_front, part_read, partials_front, tilde_front}, Words.comparator_at}

@@ -1,7 +1,7 @@
 use Rattle.nodejs_semver.proofs.Common.{nat_tests, common_steps, arith}
 use Rattle.nodejs_semver.proofs.Common.{Front, IfOk, List, MAX_SAFE_INTEGER, Span, VersionValue, ap, begins_second, comparison_front}
 use Rattle.nodejs_semver.proofs.Common.{comparisons_front, passed, refl, rules, subst, sym, take_rest, true, word_read, ℕ, ◌∙◌, ◌≡◌}
-use Rattle.nodejs_semver.{proofs.Everyday.Parts.{first-read, none-second, second-read}, specs.Internal.CommonFronts.part_read}
+use Rattle.nodejs_semver.{proofs.Everyday.Parts.{first-read, none-second, second-read}}
 use Rattle.{nodejs_semver.specs.Internal.CommonViews.{bounds_front_view, passed_view}, semver_pieces.specs.Internal.Views.bounds_view}
 use Rattle.nodejs_semver.proofs.readers.fast.push_comparisons.Goals as goal
 

@@ -1,4 +1,4 @@
-use Rattle.nodejs_semver.proofs.Common.{◌≡◌, ◌++◌, precedence, refl, sym, ◌∙◌, append-nil, arith, common_steps, nat_tests}
+use Rattle.nodejs_semver.proofs.Common.{◌≡◌, ◌++◌, precedence, refl, sym, ◌∙◌, append-nil, arith}
 use Rattle.nodejs_semver.proofs.Common.{MAX_SAFE_INTEGER, part_bounds, part_intervals, joined_from}
 use Rattle.nodejs_semver.proofs.Dividing.RunsDivide.{longer_joined, part-begins, part-last, part-step, read-shorter, read-starts, words-last}
 use Rattle.nodejs_semver.proofs.readers.intervals.read_part.Goals as goal

@@ -1,4 +1,4 @@
-use Rattle.nodejs_semver.proofs.Common.{MAX_SAFE_INTEGER, arith, common_steps, nat_tests}
+use Rattle.nodejs_semver.proofs.Common.{MAX_SAFE_INTEGER, arith}
 use Rattle.nodejs_semver.proofs.Dividing.RunsDivide.{bounds-step, longer_joined, read-shorter, read-starts, words-last}
 use Rattle.nodejs_semver.proofs.readers.intervals.read_words.Goals as goal
 

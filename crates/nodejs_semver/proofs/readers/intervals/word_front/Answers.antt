@@ -1,7 +1,7 @@
 use Rattle.nodejs_semver.proofs.Common.{◌≡◌, arith, None, Some, ap, true, false, rules, ◌∙◌, sym, refl, hyphen, MAX_SAFE_INTEGER, from_boundary, is_boundary}
 use Rattle.nodejs_semver.proofs.{Reading.WordLaw.{word-as}, Diagnosing.IgnoredParts.{read-formed, read-malformed, signed-formed}}
 use Rattle.nodejs_semver.proofs.Bounds.TableReadings.{settled}
-use Rattle.nodejs_semver.specs.Internal.{Readings.{partial_front_view, partial_view, sign_view, table_view}, Words.{signed_word}}
+use Rattle.nodejs_semver.specs.Internal.{Readings.{partial_front_view, partial_view, sign_view, table_view}}
 use Rattle.nodejs_semver.proofs.readers.intervals.word_front.Goals as goal
 
 pub returns-in_default : goal.returns-in_default
