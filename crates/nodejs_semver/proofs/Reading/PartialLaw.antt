@@ -21,10 +21,6 @@ use Rattle.semver_core.proofs.Reading.Boundaries.{boundary-le, front-dark, no-bo
 use Rattle.semver_core.proofs.Reading.Qualifiers.{build-read, build_front-le}
 use Rattle.semver_core.proofs.Reading.Qualifiers.{pre-read, pre_release_front-le, qualifier-passed}
 
--- ---- what is read is written
-
--- ---- what is written is read
-
 -- ---- one component
 
 component-some : (limit : ℕ) (c : List ℕ) (v : Option ℕ) → IsComponent limit c v → 0 < length c

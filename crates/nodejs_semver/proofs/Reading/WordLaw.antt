@@ -18,15 +18,11 @@ use Rattle.semver_core.proofs.Reading.Boundaries.{blank-len, boundary-of, bounda
 use Rattle.semver_core.proofs.Reading.Boundaries.{skips-is, skips-of, skips-utf8, some_space-is}
 use Rattle.semver_core.proofs.Reading.Boundaries.{suffix-boundary, tail-utf8}
 
--- ---- UTF-8 behind a byte, and behind characters
-
 -- ---- boundaries
 
 rest-utf8 : (limit : ℕ) (text : List ℕ) (p : Partial) (rest : List ℕ) → IsUtf8 text → IsLongestPartial limit text p rest
     → IsBoundary rest → IsUtf8 rest
 rest-utf8 limit text p rest u h b = boundary-utf8 h.0 rest (subst (λ (t : List ℕ). IsUtf8 t) h.1.0 u) b
-
--- ---- whitespace
 
 -- ---- partials up to a boundary
 
@@ -227,8 +223,6 @@ form-of limit text w rest u (tilde_greater_form t behind p r s h) =
     rw (skips-of t (62 ∷ behind) v s, read, boundary-of r h.2.ended) refl
 form-of limit text w rest u (caret_form t p r h) =
     rw (behind-read limit t p r (tail-utf8 94 t (omega arith) u) h, boundary-of r h.2.ended) refl
-
--- ---- the next boundary
 
 -- ---- the word
 
