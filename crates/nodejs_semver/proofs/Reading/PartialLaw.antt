@@ -135,10 +135,6 @@ minor_front-le limit a x None h = omega arith
 minor_front-le limit a x (Some b) h =
     omega (arith, dotted_front-le limit x b.0 b.1 h, patch_front-le limit a b.0 b.1 (dotted_front limit b.1) refl)
 
-pub component-shorter : (limit : ℕ) (x : List ℕ) (v : Option ℕ) (r : List ℕ) → component_front limit x ≡ Some (v, r)
-    → length r < length x
-component-shorter limit x v r h = grind (arith, component-read, length-append)
-
 pub record Passes (r : Partial × List ℕ) (p : Partial) (more : List ℕ) : Type 0 where
   pub le : length r.1 ≤ length more
   pub exact : Stop more → r ≡ (p, more)
@@ -209,17 +205,18 @@ build-solid b rest l h = grind (arith, all_weaker, build-bytes)
 
 -- ---- each word takes a byte or more, so the list of words is a recursion
 
-partial-shorter : (limit : ℕ) (text : List ℕ) (x : Partial) (r : List ℕ) → partial_front limit text ≡ Some (x, r)
-    → length r < length text
+pub front-read : (limit : ℕ) (text : List ℕ) (p : Partial) (rest : List ℕ) → partial_front limit text ≡ Some (p, rest)
+    → (s : List ℕ) × Read limit (drop_spaces (drop_v text)) s rest p
 unfolding partial_front
-partial-shorter limit text x r h =
-    let body = drop_spaces (drop_v text) in
-    let a = bind_some (component_front limit body) (λ a. Some (minor_front limit a.0 a.1 (dotted_front limit a.1))) (x, r) h in
-    let same = same_Some (minor_front limit a.0.0 a.0.1 (dotted_front limit a.0.1)) (x, r) a.2 in
-    let some = component-shorter limit body a.0.0 a.0.1 a.1 in
-    let others = minor_front-le limit a.0.0 a.0.1 (dotted_front limit a.0.1) refl in
+front-read limit text p rest h = grind (arith, components-read)
+
+partial-shorter : (limit : ℕ) (text : List ℕ) (r : Partial × List ℕ) → partial_front limit text ≡ Some r
+    → length r.1 < length text
+partial-shorter limit text r h =
+    let s = front-read limit text r.0 r.1 h in
+    let some = begins-some is_component_byte s.0 (components-begin limit s.0 r.0 s.1.is) in
     let mark : length (drop_v text) ≤ length text = grind arith in
-    omega (arith, some, others, mark, spaces-le (drop_v text), ap (λ (q : Partial × List ℕ). length q.1) same)
+    omega (arith, some, mark, spaces-le (drop_v text), ap length s.1.split, length-append s.0 r.1)
 
 some-space-le : (text r : List ℕ) → after_some_space text ≡ Some r → length r ≤ length text
 some-space-le text r h = omega (arith, ap length (cond_some (nat_lt 0 (space_len text)) (drop_spaces text) r h).1, spaces-le text)
@@ -229,16 +226,7 @@ byte-le c text r h = grind arith
 
 upper-le : (limit : ℕ) (s : Sign) (text : List ℕ) (q : Partial × List ℕ) → upper_of limit s text ≡ Some q
     → length q.1 ≤ length text
-upper-le limit unsigned text q h =
-    let sign = bind_some (after_some_space text) _ q h in
-    let gap = bind_some (after_byte 45 sign.0) _ q sign.2 in
-    let second = bind_some (after_some_space gap.0) _ q gap.2 in
-    let read = bind_some (partial_front limit second.0) _ q second.2 in
-    let same : read.0 ≡ q = (cond_some (is_boundary read.0.1) read.0 q read.2).1 in
-    let less = partial-shorter limit second.0 read.0.0 read.0.1 read.1 in
-    let len = ap (λ (x : Partial × List ℕ). length x.1) same in
-    omega (arith, some-space-le text sign.0 sign.1, byte-le 45 sign.0 gap.0 gap.1, some-space-le gap.0 second.0 second.1, less, len)
-upper-le limit s text q h = cc h
+upper-le limit s text q h = grind (arith, some-space-le, partial-shorter)
 
 word_behind-le : (limit : ℕ) (s : Sign) (p : Partial) (rest : List ℕ) (x : Word) (r : List ℕ)
     → word_behind limit s p rest ≡ Some (x, r) → length r ≤ length rest
@@ -255,7 +243,7 @@ form-shorter : (limit : ℕ) (text : List ℕ) (x : Word) (r : List ℕ) → beh
 form-shorter limit text x r h =
     let s = sign_at text in
     let p = bind_some (partial_front limit s.1) (λ p. word_behind limit s.0 p.0 p.1) (x, r) h in
-    omega (arith, sign_at-le text, partial-shorter limit s.1 p.0.0 p.0.1 p.1, word_behind-le limit s.0 p.0.0 p.0.1 x r p.2)
+    omega (arith, sign_at-le text, partial-shorter limit s.1 p.0 p.1, word_behind-le limit s.0 p.0.0 p.0.1 x r p.2)
 
 -- a word that begins with no whitespace takes a byte or more
 pub word-shorter : (limit b : ℕ) (rest : List ℕ) → space_len (b ∷ rest) ≡ 0 → length (word_at limit (b ∷ rest)).1 < length (b ∷ rest)
@@ -319,11 +307,6 @@ marked (b ∷ rest) u = elim (cases_Bool (b == 118)) [
 ]
 
 -- ---- what is read is written, and what is written is read
-
-pub front-read : (limit : ℕ) (text : List ℕ) (p : Partial) (rest : List ℕ) → partial_front limit text ≡ Some (p, rest)
-    → (s : List ℕ) × Read limit (drop_spaces (drop_v text)) s rest p
-unfolding partial_front
-front-read limit text p rest h = grind (arith, components-read)
 
 front-begins : (limit : ℕ) (text : List ℕ) (p : Partial) (rest : List ℕ) → IsUtf8 text → partial_front limit text ≡ Some (p, rest)
     → (front : List ℕ) × BeginsPartial limit text front p rest
