@@ -309,38 +309,40 @@ fronts-sound limit (suc n) text f h =
     behind-sound limit text f p.0 p.1 (after_bars p.0.1) (λ next. fronts_within limit n next)
     (λ next more e. fronts-sound limit n next more e) refl p.2
 
--- what follows the parts: not bars
-pub record EndsParts (more : List ℕ) : Type 0 where
-  pub ends : Ends more
-  pub bars : after_bars more ≡ None
+-- how many parts are allowed for does not matter, where there is room for each byte
+fronts-enough : (limit n m : ℕ) (text : List ℕ) → length text ≤ n → length text ≤ m
+    → fronts_within limit n text ≡ fronts_within limit m text
+unfolding fronts_within part_front
+fronts-enough limit zero zero text a b = refl
+fronts-enough limit zero (suc m) [] a b = refl
+fronts-enough limit zero (suc m) (c ∷ text) a b = absurd (omega arith)
+fronts-enough limit (suc n) zero [] a b = refl
+fronts-enough limit (suc n) zero (c ∷ text) a b = absurd (omega arith)
+fronts-enough limit (suc n) (suc m) text a b = grind (arith, next-shorter, fronts-enough limit n m)
 
-pub ends-text : EndsParts []
-unfolding after_bars
-ends-text = record { ends = ends-nil; bars = refl }
-
-fronts-exact : (limit n : ℕ) (x more : List ℕ) (list : List (Span VersionValue)) → length (x ++ more) ≤ n
-    → AreCommonParts limit x list → EndsParts more → fronts_within limit n (x ++ more) ≡ Some (list, more)
+-- the intervals of a text are that of the part at its front, and those of what follows its bars
+fronts-step : (limit : ℕ) (text : List ℕ) → common_fronts limit text
+    ≡ (part_front limit text >>? λ part. part_before part.0 part.1 (after_bars part.1) (λ next. common_fronts limit next))
 unfolding fronts_within
-fronts-exact limit zero x more list l h e = grind (arith, range-begins, length-append)
-fronts-exact limit (suc n) x more list l (one_part part s is) e = grind (arith, part-exact limit part s more is e.ends)
-fronts-exact limit (suc n) x more list l (more_parts part before after rest s others is b a h) e =
-    grind (arith, nat_tests, common_steps, part-exact, ends-behind, bars-exact, range-begins, next-shorter, append_assoc, begins-on, fronts-exact limit n rest more others)
-
--- the parts at the front are read, and all parts of a text
-pub fronts_are_read : (limit : ℕ) (x more : List ℕ) (list : List (Span VersionValue)) → AreCommonParts limit x list → EndsParts more
-    → common_fronts limit (x ++ more) ≡ Some (list, more)
-fronts_are_read limit x more list h e = fronts-exact limit (length (x ++ more)) x more list (omega arith) h e
+fronts-step limit text =
+    fronts-enough limit (length text) (suc (length text)) text (omega arith) (omega arith)
+    ∙ grind (arith, next-shorter, fronts-enough limit (length text))
 
 pub front_is_read : (limit : ℕ) (text : List ℕ) (f : List (Span VersionValue) × List ℕ) → common_fronts limit text ≡ Some f
     → Fronted limit text f
 front_is_read limit text f h = fronts-sound limit (length text) text f h
 
 -- all parts of a text are read
+bars-none : after_bars [] ≡ None
+unfolding after_bars
+bars-none = refl
+
 read-once : (limit : ℕ) (text : List ℕ) (list : List (Span VersionValue)) → AreCommonParts limit text list
     → common_fronts limit text ≡ Some (list, [])
-read-once limit text list h =
-    let e = fronts_are_read limit text [] list h ends-text in
-    subst (λ (t : List ℕ). common_fronts limit t ≡ Some (list, [])) (append-nil text) e
+read-once limit text list (one_part part s is) =
+    grind (arith, fronts-step limit part, part-exact limit part s [] is ends-nil, append-nil, bars-none)
+read-once limit text list (more_parts part before after rest s others is b a h) =
+    grind (arith, nat_tests, common_steps, fronts-step, part-exact, ends-behind, bars-exact, range-begins, read-once limit rest others h)
 
 all-read : (limit : ℕ) (text : List ℕ) (list : List (Span VersionValue)) → common_parts limit text ≡ Some list → AreCommonParts limit text list
 all-read limit text list h = grind (arith, front_is_read, append-nil)
@@ -425,25 +427,6 @@ HasBars text = has_bars text ≡ true
 pub behind-bars : (front rest : List ℕ) → HasBars rest → HasBars (front ++ rest)
 behind-bars [] rest h = h
 behind-bars (b ∷ front) rest h = grind (arith, behind-bars front rest h)
-
--- how many parts are allowed for does not matter, where there is room for each byte
-fronts-enough : (limit n m : ℕ) (text : List ℕ) → length text ≤ n → length text ≤ m
-    → fronts_within limit n text ≡ fronts_within limit m text
-unfolding fronts_within part_front
-fronts-enough limit zero zero text a b = refl
-fronts-enough limit zero (suc m) [] a b = refl
-fronts-enough limit zero (suc m) (c ∷ text) a b = absurd (omega arith)
-fronts-enough limit (suc n) zero [] a b = refl
-fronts-enough limit (suc n) zero (c ∷ text) a b = absurd (omega arith)
-fronts-enough limit (suc n) (suc m) text a b = grind (arith, next-shorter, fronts-enough limit n m)
-
--- the intervals of a text are that of the part at its front, and those of what follows its bars
-fronts-step : (limit : ℕ) (text : List ℕ) → common_fronts limit text
-    ≡ (part_front limit text >>? λ part. part_before part.0 part.1 (after_bars part.1) (λ next. common_fronts limit next))
-unfolding fronts_within
-fronts-step limit text =
-    fronts-enough limit (length text) (suc (length text)) text (omega arith) (omega arith)
-    ∙ grind (arith, next-shorter, fronts-enough limit (length text))
 
 -- the intervals that were found, and those that are read in what is left of the text, are those of the whole text
 pub record Reaches (limit : ℕ) (text : List ℕ) (found : List (Span VersionValue)) (rest : List ℕ) : Type 0 where

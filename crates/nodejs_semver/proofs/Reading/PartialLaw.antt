@@ -226,7 +226,16 @@ byte-le c text r h = grind arith
 
 upper-le : (limit : ℕ) (s : Sign) (text : List ℕ) (q : Partial × List ℕ) → upper_of limit s text ≡ Some q
     → length q.1 ≤ length text
-upper-le limit s text q h = grind (arith, some-space-le, partial-shorter)
+upper-le limit unsigned text q h =
+    let sign = bind_some (after_some_space text) _ q h in
+    let gap = bind_some (after_byte 45 sign.0) _ q sign.2 in
+    let second = bind_some (after_some_space gap.0) _ q gap.2 in
+    let read = bind_some (partial_front limit second.0) _ q second.2 in
+    let same : read.0 ≡ q = (cond_some (is_boundary read.0.1) read.0 q read.2).1 in
+    let less = partial-shorter limit second.0 read.0 read.1 in
+    let len = ap (λ (x : Partial × List ℕ). length x.1) same in
+    omega (arith, some-space-le text sign.0 sign.1, byte-le 45 sign.0 gap.0 gap.1, some-space-le gap.0 second.0 second.1, less, len)
+upper-le limit s text q h = cc h
 
 word_behind-le : (limit : ℕ) (s : Sign) (p : Partial) (rest : List ℕ) (x : Word) (r : List ℕ)
     → word_behind limit s p rest ≡ Some (x, r) → length r ≤ length rest
