@@ -6,7 +6,7 @@ use Rattle.nodejs_semver.proofs.Common.{eqb-true, false, has_bars, hyphen, if_an
 use Rattle.nodejs_semver.proofs.Common.{Bool, IsUtf8, all_weaker, list_all, list_all-append, list_any, take, ◌-◌, ◌||◌}
 use Rattle.std.proofs.{Math.Seq.take-append_seam, lemmas.Str.{Ascii.{IsAscii-cons, IsAscii-nil}, IsUtf8-from_ascii}}
 use Rattle.std.specs.Str.{IsAscii}
-use Rattle.nodejs_semver.proofs.Common.{length-append, meet, subst, nat_tests, passed, plain, precedence, refl, same_Some, suc, table, tilde, tilde_sign}
+use Rattle.nodejs_semver.proofs.Common.{length-append, meet, nat_tests, passed, plain, precedence, refl, same_Some, suc, table, tilde, tilde_sign}
 use Rattle.nodejs_semver.proofs.{Common.{true, word_read, zero, ℕ, ◌++◌, ◌<◌, ◌==◌, ◌↔◌, ◌∙◌, ◌∷◌, ◌≡◌, ◌≤◌}, Everyday.Texts.list-some}
 use Rattle.nodejs_semver.proofs.{Everyday.{Texts.part-tidy, Words.{no-equal, no-greater, sign-begins}}, Reading.PartialLaw.{components-begin, components-bytes, is_partial_byte}}
 use Rattle.nodejs_semver.proofs.Reading.{PartialLaw.{components-read, components-then}, WordLaw.{Signed, sign-is, tilde-cases}}
