@@ -1,6 +1,2 @@
-pub mod Steps
-pub mod Bytes
-pub mod Numbers
-pub mod IdentifierLists
 pub mod PartialLaw
 pub mod WordLaw

@@ -49,6 +49,9 @@ module _ (limit : ℕ) (p : Partial) where
   between-good : (v w : VersionValue) → precedence v w ≡ Less → Bounds v → Bounds w → Good limit p (Some (record { lower = Before v; upper = Before w }))
   between-good v w e h k = (rw e refl, λ f. and_from _ _ (h f) (k f))
 
+  alone-good : (v : VersionValue) → Bounds v → Good limit p (Some (record { lower = Before v; upper = After v }))
+  alone-good v h = (rw (tied_itself precedence_total v) refl, λ f. and_from _ _ (h f) (h f))
+
 module _ (limit : ℕ) (q : Partial) (x y : List Id) where
   -- whole major and minor versions
   major-good : (M : ℕ) (c : Option ℕ) → Good limit (made (Some M) None c x y) (Some (record { lower = Before (release_value M 0 0); upper = Before (lowest (M + 1) 0 0) }))
@@ -75,10 +78,8 @@ module _ (limit : ℕ) (q : Partial) (x y : List Id) where
   at_most-good a b c = grind (arith, version-is, release-is, zeroed-le)
 
   equal-good : Rows (compare equal q)
-  equal-good (Some M) (Some m) (Some p) = let w = made (Some M) (Some m) (Some p) x y in (
-    rw (tied_itself precedence_total (without_build (version_of w))) refl,
-    λ f. and_from _ _ (unbuilt-is limit w f) (unbuilt-is limit w f),
-  )
+  equal-good (Some M) (Some m) (Some p) = let w = made (Some M) (Some m) (Some p) x y in
+      alone-good limit w (without_build (version_of w)) (unbuilt-is limit w)
   equal-good (Some M) (Some m) None = minor-good M m
   equal-good (Some M) None c = major-good M c
   equal-good None b c = tt
@@ -88,7 +89,7 @@ module _ (limit : ℕ) (q : Partial) (x y : List Id) where
   plain-good (Some M) None c = major-good M c
   plain-good (Some M) (Some m) None = minor-good M m
   plain-good (Some M) (Some m) (Some p) = let w = made (Some M) (Some m) (Some p) x y in
-      (rw (tied_itself precedence_total (version_of w)) refl, λ f. and_from _ _ (version-is limit w f) (version-is limit w f))
+      alone-good limit w (version_of w) (version-is limit w)
 
   tilde-good : (greater : Bool) → Rows (tilde greater q)
   tilde-good greater a b c = grind (arith, major-good, minor-good, next_minor-good)
@@ -124,11 +125,11 @@ hyphen-good : (limit : ℕ) (p : Partial) (a b c : Option ℕ) (x y : List Id) (
 hyphen-good limit p None None None x y t e =
     upper-good limit p _ (Before (lowest 0 0 0)) t (λ _. lowest-is (limit + 1) 0 0 0 (omega arith) (omega arith) (omega arith)) e
 hyphen-good limit p (Some M) None None x y t e =
-    upper-good limit p (made (Some M) None None x y) (Before (lowest (M + 1) 0 0)) t (λ f. lowest-is (limit + 1) (M + 1) 0 0 (omega (arith, f.major)) (omega arith) (omega arith)) e
+    upper-good limit p (made (Some M) None None x y) (Before (lowest (M + 1) 0 0)) t (grind (arith, lowest-is)) e
 hyphen-good limit p (Some M) (Some m) None x y t e =
-    upper-good limit p (made (Some M) (Some m) None x y) (Before (lowest M (m + 1) 0)) t (λ f. lowest-is (limit + 1) M (m + 1) 0 (omega (arith, f.major)) (omega (arith, f.minor)) (omega arith)) e
-hyphen-good limit p a b c x y t e = let q = made a b c x y in
-    upper-good limit p q (After (version_of q)) t (version-is limit q) e
+    upper-good limit p (made (Some M) (Some m) None x y) (Before (lowest M (m + 1) 0)) t (grind (arith, lowest-is)) e
+hyphen-good limit p a b c x y t e =
+    upper-good limit p (made a b c x y) (After (version_of (made a b c x y))) t (version-is limit _) e
 
 -- ---- every word
 

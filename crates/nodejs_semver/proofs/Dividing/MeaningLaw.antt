@@ -64,8 +64,6 @@ pub runs-once : (limit : ℕ) (piece : List ℕ) (runs : List (Run VersionValue)
 runs-once limit piece runs u h =
     grind (arith, nat_tests, middle_is_trim piece h.1.0 h.1.1, trim-starts piece h.1.0 h.1.1, words-once limit h.1.0 h.0 (trim-utf8 piece h.1.0 u h.1.1) (trim-starts piece h.1.0 h.1.1) h.1.2, trim-utf8 piece h.1.0 u h.1.1, runs_are (filter_map (table limit) h.0) runs h.2)
 
--- ---- the pieces of a text are UTF-8
-
 -- ---- a piece is blank where nothing is left of it
 
 pub no_characters : (cs : List ℕ) → encode_utf8_all cs ≡ [] → cs ≡ []

@@ -6,7 +6,7 @@ use Rattle.nodejs_semver.proofs.Common.{longer, meet, nat_tests, next_at, part_b
 use Rattle.nodejs_semver.proofs.Common.{runs_from, runs_of, space_len, subst, sym, table, true, words, words_within, ℕ, ◌++◌, ◌<◌, ◌∙◌, ◌∷◌, ◌≡◌}
 use Rattle.nodejs_semver.proofs.Dividing.RunLemmas.{fits-shrinks, joined-goes, joined-stops, runs-goes, runs-joined, runs-stops}
 use Rattle.nodejs_semver.{proofs.Reading.PartialLaw.{word-shorter, words-step}, specs.Text.Runs.{AreLongest, AreRuns}}
-use Rattle.{semver_core.proofs.Reading.Boundaries.{spaces-gone, spaces-le}, std.specs.List.cons_option}
+use Rattle.{semver_core.proofs.Reading.{Boundaries.{spaces-gone, spaces-le}, Steps.option-cases}, std.specs.List.cons_option}
 
 abbrev pub single : {V : Type 0} → Span V → Run V
 single s = record { first = s; others = [] }
@@ -134,9 +134,6 @@ read-shorter limit (b ∷ rest) after o some h e = grind (arith, spaces-le, word
 pub read-starts : (limit : ℕ) (text after : List ℕ) (o : Option (Span VersionValue)) → (o, after) ≡ next_at limit text → space_len after ≡ 0
 read-starts limit text after o e = grind (arith, spaces-gone)
 
-pub read-is : (limit : ℕ) (text after : List ℕ) (o p : Option (Span VersionValue)) → p ≡ o → (o, after) ≡ next_at limit text → (p, after) ≡ next_at limit text
-read-is limit text after o p h e = rw h e
-
 -- the bounds of the word at the front, before those of what follows
 pub bounds-step : (limit : ℕ) (text after : List ℕ) (o : Option (Span VersionValue)) → 0 < length text → space_len text ≡ 0
     → (o, after) ≡ next_at limit text → part_bounds limit text ≡ cons_option o (part_bounds limit after)
@@ -146,13 +143,10 @@ pub words-none : (limit : ℕ) (text : List ℕ) → length text ≡ 0 → words
 unfolding words_within
 words-none limit text h = grind arith
 
-bounds-end : (limit : ℕ) (text : List ℕ) → length text ≡ 0 → part_bounds limit text ≡ []
-bounds-end limit text h = rw (words-none limit text h) refl
-
 -- the end of the part
 pub words-last : (limit : ℕ) (rest : List ℕ) (last : Span VersionValue) → length rest ≡ 0 → joined_from precedence last (part_bounds limit rest) ≡ last ∷ []
 unfolding joined_from
-words-last limit rest last none = ap (λ (l : List (Span VersionValue)). joined_from precedence last l) (bounds-end limit rest none)
+words-last limit rest last none = grind (arith, words-none)
 
 -- the intervals of a part, before any word is read
 pub part-begins : (limit : ℕ) (part : List ℕ) → joined precedence None (part_bounds limit part) ≡ part_intervals limit part
@@ -164,33 +158,20 @@ pub part-step : (limit : ℕ) (text after : List ℕ) (o : Option (Span VersionV
     → joined precedence None (part_bounds limit text) ≡ joined precedence None (cons_option o (part_bounds limit after))
 part-step limit text after o some h e = grind (arith, nat_tests, common_steps, bounds-step)
 
--- what the first interval of a part and those behind it add
-pub part-first : (limit : ℕ) (part text after : List ℕ) (first : Span VersionValue) (o : Option (Span VersionValue)) (found before : List (Span VersionValue))
-    → 0 < length text → space_len text ≡ 0 → Some first ≡ o → (o, after) ≡ next_at limit text → found ≡ before
-    → joined precedence None (part_bounds limit text) ≡ part_intervals limit part
-    → found ++ joined_from precedence first (part_bounds limit after) ≡ before ++ part_intervals limit part
-part-first limit part text after first o found before some h is e same whole =
-    let step = part-step limit text after (Some first) some h (read-is limit text after o (Some first) is e) in
-    rw same (ap (λ (l : List (Span VersionValue)). before ++ l) (sym step ∙ whole))
-
 -- no word is left
 pub part-last : (limit : ℕ) (rest : List ℕ) → length rest ≡ 0 → joined precedence None (part_bounds limit rest) ≡ []
-part-last limit rest none = rw (bounds-end limit rest none) refl
+part-last limit rest none = rw (words-none limit rest none) refl
 
 -- ---- lists that are to have two intervals or more
 
 -- a running interval is never lost
-some-behind : (o : Option (Span VersionValue)) (running next : Span VersionValue) (rest : List (Span VersionValue))
-    → meet precedence running next ≡ o → ((s : Span VersionValue) → 0 < length (joined_from precedence s rest))
-    → 0 < length (joined_from precedence running (next ∷ rest))
-some-behind (Some common) running next rest m behind = rw (joined-goes precedence running next common rest m) (behind common)
-some-behind None running next rest m behind = rw (joined-stops precedence running next rest m) (omega arith)
-
-joined-some : (running : Span VersionValue) (rest : List (Span VersionValue)) → 0 < length (joined_from precedence running rest)
+joined-some : (rest : List (Span VersionValue)) (running : Span VersionValue) → 0 < length (joined_from precedence running rest)
 unfolding joined_from
-joined-some running [] = omega arith
-joined-some running (next ∷ rest) =
-    some-behind (meet precedence running next) running next rest refl (λ s. joined-some s rest)
+joined-some [] running = omega arith
+joined-some (next ∷ rest) running = elim (option-cases (meet precedence running next)) [
+  | inl none ↦ rw (joined-stops precedence running next rest none) (omega arith)
+  | inr m ↦ rw (joined-goes precedence running next m.0 rest m.1) (joined-some rest m.0)
+]
 
 pub longer_joined : (found : List (Span VersionValue)) (running : Span VersionValue) (rest : List (Span VersionValue))
     → 0 < length found → 1 < length (found ++ joined_from precedence running rest)

@@ -2,13 +2,13 @@
 use Rattle.nodejs_semver.proofs.Common.{AreCommonParts, AreComponents, Bound, Comparator, Front, IsSign, IsSomeAnd, List, None, Option, Partial, Some}
 use Rattle.nodejs_semver.proofs.Common.{Span, Unbounded, VersionValue, Word, [], above, ap, append-nil, append_assoc, arith, at_most, begins}
 use Rattle.nodejs_semver.proofs.Common.{begins_second, below, bind_some, cases_Bool, common_steps, comparison_front, comparisons_front, drop}
-use Rattle.nodejs_semver.proofs.Common.{eqb-true, false, false≢true, has_bars, hyphen, if_any, if◌then◌else◌, inl, inr, interval, is_sign, length}
+use Rattle.nodejs_semver.proofs.Common.{eqb-true, false, has_bars, hyphen, if_any, if◌then◌else◌, inl, inr, interval, is_sign, length}
 use Rattle.nodejs_semver.proofs.Common.{Bool, IsUtf8, all_weaker, list_all, list_all-append, list_any, take, ◌-◌, ◌||◌}
 use Rattle.std.proofs.{Math.Seq.take-append_seam, lemmas.Str.{Ascii.{IsAscii-cons, IsAscii-nil}, IsUtf8-from_ascii}}
 use Rattle.std.specs.Str.{IsAscii}
-use Rattle.nodejs_semver.proofs.Common.{length-append, meet, subst, sym, nat_tests, passed, plain, precedence, refl, same_Some, suc, table, tilde, tilde_sign}
-use Rattle.nodejs_semver.proofs.{Common.{true, word_read, zero, ℕ, ◌++◌, ◌<◌, ◌==◌, ◌↔◌, ◌∙◌, ◌∷◌, ◌≡◌, ◌≤◌, ◌⊎◌}, Everyday.Texts.list-some}
-use Rattle.nodejs_semver.proofs.{Everyday.{Texts.part-tidy, Words.{is_part_byte, no-equal, no-greater, sign-begins}}, Reading.PartialLaw.{components-begin, components-open, is_open}}
+use Rattle.nodejs_semver.proofs.Common.{length-append, meet, nat_tests, passed, plain, precedence, refl, same_Some, suc, table, tilde, tilde_sign}
+use Rattle.nodejs_semver.proofs.{Common.{true, word_read, zero, ℕ, ◌++◌, ◌<◌, ◌==◌, ◌↔◌, ◌∙◌, ◌∷◌, ◌≡◌, ◌≤◌}, Everyday.Texts.list-some}
+use Rattle.nodejs_semver.proofs.{Everyday.{Texts.part-tidy, Words.{no-equal, no-greater, sign-begins}}, Reading.PartialLaw.{components-begin, components-bytes, is_partial_byte}}
 use Rattle.nodejs_semver.proofs.Reading.{PartialLaw.{components-read, components-then}, WordLaw.{Signed, sign-is, tilde-cases}}
 use Rattle.nodejs_semver.specs.Internal.CommonFronts.{bare_front, begins_dash, both_of, caret_front, common_fronts, common_parts, common_range, fronts_within, onto, part_before}
 use Rattle.nodejs_semver.specs.Internal.{CommonFronts.{part_front, part_read, partials_front, tilde_front}, Words.comparator_at}
@@ -43,26 +43,12 @@ dotted_read limit run more n is stop = component_read limit run more n is stop
 pub bare_triple : (limit : ℕ) (text : List ℕ) (M m p : ℕ) (rest : List ℕ) → IsTriple limit text M m p rest
     → Some (patch_front (Some M) (Some m) [] (Some (Some p, rest))) ≡ bare_front limit text
 unfolding bare_front
-bare_triple limit text M m p rest is =
-    let patched = is.patch ++ rest in
-    let minored = is.minor ++ 46 ∷ patched in
-    rw (
-      is.divided,
-      component_read limit is.major (46 ∷ minored) M is.major_is refl,
-      dotted_read limit is.minor (46 ∷ patched) m is.minor_is refl,
-      dotted_read limit is.patch rest p is.patch_is.number is.patch_is.ended,
-    ) refl
+bare_triple limit text M m p rest is = grind (arith, component_read, dotted_read)
 
 -- no partial begins otherwise
 pub bare_nothing : (limit : ℕ) (text : List ℕ) → begins (λ b. is_wildcard b || is_ascii_digit b) text ≡ false → None ≡ bare_front limit text
 unfolding bare_front component_front Spec.number_of
-bare_nothing limit [] h = refl
-bare_nothing limit (c ∷ rest) h = elim (cases_Bool (is_wildcard c)) [
-  | inl wild ↦ absurd (false≢true (sym h ∙ ap (λ b. b || is_ascii_digit c) wild))
-  | inr other ↦
-      let digit = rw other at h in
-      rw (other, digit) refl
-]
+bare_nothing limit text h = grind arith
 
 pub bare-sound : (limit : ℕ) (text : List ℕ) (p : Partial) (more : List ℕ) → bare_front limit text ≡ Some (p, more) → (x : List ℕ)
     × (text ≡ x ++ more) × AreComponents limit x p
@@ -125,10 +111,7 @@ caret-sound limit text r h =
 -- what stands behind a tilde
 tilde-by : (limit : ℕ) (text : List ℕ) (p : Partial) (x more : List ℕ) → (tilde_sign text).1 ≡ x ++ more → AreComponents limit x p
     → Worded limit (126 ∷ text) (tilde (tilde_sign text).0 p, more)
-tilde-by limit text p x more e h = elim (tilde-cases text) [
-  | inl alone ↦ rw alone (126 ∷ x, ap (λ (t : List ℕ). 126 ∷ t) (rw alone at e), tilde_word x p h)
-  | inr y ↦ rw y.2 (126 ∷ 62 ∷ x, rw y.1 (ap (λ (t : List ℕ). 126 ∷ 62 ∷ t) (rw y.2 at e)), tilde_greater_word x p h)
-]
+tilde-by limit text p x more e h = grind (arith, tilde-cases, tilde_word, tilde_greater_word)
 
 tilde-sound : (limit : ℕ) (text : List ℕ) (r : Word × List ℕ) → tilde_front limit text ≡ Some r → Worded limit (126 ∷ text) r
 unfolding tilde_front
@@ -289,9 +272,7 @@ Fronted limit text f = (x : List ℕ) × (text ≡ x ++ f.1) × AreCommonParts l
 -- the last part
 last-sound : (limit : ℕ) (text : List ℕ) (s : Span VersionValue) (more : List ℕ) → part_front limit text ≡ Some (s, more)
     → Fronted limit text (s ∷ [], more)
-last-sound limit text s more h =
-    let p = part-sound limit text (s, more) h in
-    (p.0, p.1, one_part p.0 s p.2)
+last-sound limit text s more h = grind (arith, part-sound, one_part)
 
 -- a part before others
 next-sound : (limit : ℕ) (text : List ℕ) (s : Span VersionValue) (more next : List ℕ) (f : List (Span VersionValue) × List ℕ)
@@ -305,9 +286,9 @@ next-sound limit text s more next f h k r =
     (x, whole, more_parts p.0 b.before b.after r.0 s f.0 p.2 b.is_before b.is_after r.2)
 
 -- less is left behind the bars
-pub next-shorter : (limit : ℕ) (text : List ℕ) (s : Span VersionValue) (more next : List ℕ) → part_front limit text ≡ Some (s, more) → after_bars more ≡ Some next
-    → length next < length text
-next-shorter limit text s more next h k = grind (arith, nat_tests, length-append, bars-sound more next k, part-sound)
+next-shorter : (limit : ℕ) (text next : List ℕ) (p : Span VersionValue × List ℕ) → part_front limit text ≡ Some p
+    → after_bars p.1 ≡ Some next → length next < length text
+next-shorter limit text next p h k = grind (arith, nat_tests, length-append, bars-sound p.1 next k, part-sound)
 
 -- what follows a part, and the parts behind it, which are read so
 behind-sound : (limit : ℕ) (text : List ℕ) (f : List (Span VersionValue) × List ℕ) (p : Span VersionValue × List ℕ) → part_front limit text ≡ Some p
@@ -328,64 +309,55 @@ fronts-sound limit (suc n) text f h =
     behind-sound limit text f p.0 p.1 (after_bars p.0.1) (λ next. fronts_within limit n next)
     (λ next more e. fronts-sound limit n next more e) refl p.2
 
--- what follows the parts: not bars
-pub record EndsParts (more : List ℕ) : Type 0 where
-  pub ends : Ends more
-  pub bars : after_bars more ≡ None
+-- how many parts are allowed for does not matter, where there is room for each byte
+fronts-enough : (limit n m : ℕ) (text : List ℕ) → length text ≤ n → length text ≤ m
+    → fronts_within limit n text ≡ fronts_within limit m text
+unfolding fronts_within part_front
+fronts-enough limit zero zero text a b = refl
+fronts-enough limit zero (suc m) [] a b = refl
+fronts-enough limit zero (suc m) (c ∷ text) a b = absurd (omega arith)
+fronts-enough limit (suc n) zero [] a b = refl
+fronts-enough limit (suc n) zero (c ∷ text) a b = absurd (omega arith)
+fronts-enough limit (suc n) (suc m) text a b = grind (arith, next-shorter, fronts-enough limit n m)
 
-pub ends-text : EndsParts []
-unfolding after_bars
-ends-text = record { ends = ends-nil; bars = refl }
-
-fronts-exact : (limit n : ℕ) (x more : List ℕ) (list : List (Span VersionValue)) → length (x ++ more) ≤ n
-    → AreCommonParts limit x list → EndsParts more → fronts_within limit n (x ++ more) ≡ Some (list, more)
+-- the intervals of a text are that of the part at its front, and those of what follows its bars
+fronts-step : (limit : ℕ) (text : List ℕ) → common_fronts limit text
+    ≡ (part_front limit text >>? λ part. part_before part.0 part.1 (after_bars part.1) (λ next. common_fronts limit next))
 unfolding fronts_within
-fronts-exact limit zero x more list l h e = grind (arith, range-begins, length-append)
-fronts-exact limit (suc n) x more list l (one_part part s is) e = grind (arith, part-exact limit part s more is e.ends)
-fronts-exact limit (suc n) x more list l (more_parts part before after rest s others is b a h) e =
-    grind (arith, nat_tests, common_steps, part-exact, ends-behind, bars-exact, range-begins, next-shorter, append_assoc, begins-on, fronts-exact limit n rest more others)
-
--- the parts at the front are read, and all parts of a text
-pub fronts_are_read : (limit : ℕ) (x more : List ℕ) (list : List (Span VersionValue)) → AreCommonParts limit x list → EndsParts more
-    → common_fronts limit (x ++ more) ≡ Some (list, more)
-fronts_are_read limit x more list h e = fronts-exact limit (length (x ++ more)) x more list (omega arith) h e
+fronts-step limit text =
+    fronts-enough limit (length text) (suc (length text)) text (omega arith) (omega arith)
+    ∙ grind (arith, next-shorter, fronts-enough limit (length text))
 
 pub front_is_read : (limit : ℕ) (text : List ℕ) (f : List (Span VersionValue) × List ℕ) → common_fronts limit text ≡ Some f
     → Fronted limit text f
 front_is_read limit text f h = fronts-sound limit (length text) text f h
 
 -- all parts of a text are read
+bars-none : after_bars [] ≡ None
+unfolding after_bars
+bars-none = refl
+
 read-once : (limit : ℕ) (text : List ℕ) (list : List (Span VersionValue)) → AreCommonParts limit text list
     → common_fronts limit text ≡ Some (list, [])
-read-once limit text list h =
-    let e = fronts_are_read limit text [] list h ends-text in
-    subst (λ (t : List ℕ). common_fronts limit t ≡ Some (list, [])) (append-nil text) e
+read-once limit text list (one_part part s is) =
+    grind (arith, fronts-step limit part, part-exact limit part s [] is ends-nil, append-nil, bars-none)
+read-once limit text list (more_parts part before after rest s others is b a h) =
+    grind (arith, nat_tests, common_steps, fronts-step, part-exact, ends-behind, bars-exact, range-begins, read-once limit rest others h)
 
 all-read : (limit : ℕ) (text : List ℕ) (list : List (Span VersionValue)) → common_parts limit text ≡ Some list → AreCommonParts limit text list
-all-read limit text list h =
-    let f = bind_some (common_fronts limit text) _ list h in
-    let r = front_is_read limit text f.0 f.1 in
-    grind (arith, append-nil)
+all-read limit text list h = grind (arith, front_is_read, append-nil)
 
 pub common_parts_are_read : (limit : ℕ) (text : List ℕ) (list : List (Span VersionValue)) → (common_parts limit text ≡ Some list) ↔ AreCommonParts limit text list
-common_parts_are_read limit text list = (
-  all-read limit text list,
-  λ h. rw (read-once limit text list h) refl,
-)
+common_parts_are_read limit text list = grind (arith, all-read, read-once)
 
 -- what was read at the front is the whole text exactly where nothing follows it
 pub whole-read : (limit : ℕ) (text : List ℕ) (list : List (Span VersionValue)) (rest : List ℕ) → common_fronts limit text ≡ Some (list, rest)
     → length rest ≡ 0 → AreCommonParts limit text list
-whole-read limit text list [] h none =
-    let r = front_is_read limit text (list, []) h in
-    subst (λ (t : List ℕ). AreCommonParts limit t list) (sym (r.1 ∙ append-nil r.0)) r.2
-whole-read limit text list (b ∷ rest) h none = absurd (omega (arith, none))
+whole-read limit text list rest h none = grind (arith, nat_tests, common_steps, front_is_read, append-nil)
 
 pub part-read : (limit : ℕ) (text : List ℕ) (list : List (Span VersionValue)) (rest : List ℕ) → common_fronts limit text ≡ Some (list, rest)
     → 0 < length rest → NoValue (AreCommonParts limit text)
-part-read limit text list rest h some other is =
-    let e = same_Some _ _ (sym h ∙ read-once limit text other is) in
-    absurd (omega (arith, some, ap (λ (f : List (Span VersionValue) × List ℕ). length f.1) e))
+part-read limit text list rest h some other is = grind (arith, read-once)
 
 pub none-read : (limit : ℕ) (text : List ℕ) → common_fronts limit text ≡ None → NoValue (AreCommonParts limit text)
 none-read limit text h list is = cc (h, read-once limit text list is)
@@ -447,19 +419,6 @@ second-read limit text a b rest more h second k = rw (← h) (go (interval prece
         ≡ part_read more (o >>? λ s. interval precedence b >>? λ t. meet precedence s t)
     go o = grind (arith, last)
 
--- what was added, and that nothing was
-pub record Added (done new : List (Span VersionValue)) (o : Front (Span VersionValue)) (rest : List ℕ) : Type 0 where
-  pub interval_is : Span VersionValue
-  pub found : o ≡ Some (interval_is, rest)
-  pub list : new ≡ done ++ interval_is ∷ []
-
-pub passed-some : (done new : List (Span VersionValue)) (o : Front (Span VersionValue)) (r : Option (List ℕ)) (rest : List ℕ) → behind r new ≡ passed done o → r ≡ Some rest
-    → Added done new o rest
-passed-some done new o r rest h k = grind arith
-
-pub passed-none : (done new : List (Span VersionValue)) (o : Front (Span VersionValue)) (r : Option (List ℕ)) → behind r new ≡ passed done o → r ≡ None → o ≡ None
-passed-none done new o r h k = grind arith
-
 -- ---- one part of a common text after another
 
 abbrev pub HasBars : List ℕ → Type 0
@@ -471,87 +430,51 @@ behind-bars (b ∷ front) rest h = grind (arith, behind-bars front rest h)
 
 -- the intervals that were found, and those that are read in what is left of the text, are those of the whole text
 pub record Reaches (limit : ℕ) (text : List ℕ) (found : List (Span VersionValue)) (rest : List ℕ) : Type 0 where
-  pub bytes : ℕ
-  pub room : length rest ≤ bytes
-  pub whole : (fronts_within limit bytes rest >>? λ tail. Some (found ++ tail.0, tail.1)) ≡ common_fronts limit text
-  pub some : (found ≡ []) ⊎ HasBars text
+  pub whole : (common_fronts limit rest >>? λ tail. Some (found ++ tail.0, tail.1)) ≡ common_fronts limit text
   pub within : HasBars rest → HasBars text
 
 pub loop-starts : (limit : ℕ) (text rest : List ℕ) (found : List (Span VersionValue)) → rest ≡ text → found ≡ []
     → Reaches limit text found rest
 loop-starts limit text rest found e f = grind arith
 
--- ---- one part
+-- the reader was at a place, and found no part there
+pub loop-no_part : (limit : ℕ) (text : List ℕ) (found new : List (Span VersionValue)) (rest : List ℕ)
+    → behind None new ≡ passed found (part_front limit rest) → Reaches limit text found rest
+    → common_fronts limit text ≡ None
+loop-no_part limit text found new rest h r = grind (arith, fronts-step limit rest)
 
-stops-part : (limit n : ℕ) (rest : List ℕ) → part_front limit rest ≡ None → fronts_within limit n rest ≡ None
-unfolding fronts_within
-stops-part limit n rest h = grind arith
+-- it added the interval of a part, which no bars follow
+pub loop-ends : (limit : ℕ) (text : List ℕ) (found new : List (Span VersionValue)) (rest left : List ℕ)
+    → behind (Some left) new ≡ passed found (part_front limit rest) → after_bars left ≡ None
+    → Reaches limit text found rest → common_fronts limit text ≡ Some (new, left)
+loop-ends limit text found new rest left added none r = grind (arith, fronts-step limit rest)
 
-ends-there : (limit n : ℕ) (rest left : List ℕ) (s : Span VersionValue) → length rest ≤ n → part_front limit rest ≡ Some (s, left)
-    → after_bars left ≡ None → fronts_within limit n rest ≡ Some (s ∷ [], left)
-unfolding fronts_within part_front
-ends-there limit n rest left s h k m = grind arith
-
-goes-on : (limit n : ℕ) (rest left next : List ℕ) (s : Span VersionValue) → length rest ≤ n
-    → part_front limit rest ≡ Some (s, left) → after_bars left ≡ Some next → (m : ℕ) × (length next ≤ m)
-    × (fronts_within limit n rest ≡ (fronts_within limit m next >>? λ more. Some (s ∷ more.0, more.1)))
-unfolding fronts_within part_front
-goes-on limit zero [] left next s l h k = cc h
-goes-on limit zero (b ∷ rest) left next s l h k = absurd (omega arith)
-goes-on limit (suc n) rest left next s l h k = (n, omega (arith, next-shorter limit rest s left next h k), grind arith)
-
--- ---- the steps of the loop
-
--- the reader was at a place, and its next step added a part
-pub record Step (limit : ℕ) (found new : List (Span VersionValue)) (rest left : List ℕ) : Type 0 where
-  pub after : Option (List ℕ)
-  pub added : behind after new ≡ passed found (part_front limit rest)
-  pub there : after ≡ Some left
-
-added-by : (limit : ℕ) (found new : List (Span VersionValue)) (rest left : List ℕ) → Step limit found new rest left
-    → Added found new (part_front limit rest) left
-added-by limit found new rest left s = passed-some found new (part_front limit rest) s.after left s.added s.there
-
-pub loop-no_part : (limit : ℕ) (text : List ℕ) (found new : List (Span VersionValue)) (rest : List ℕ) (after : Option (List ℕ)) → behind after new ≡ passed found (part_front limit rest)
-    → after ≡ None → Reaches limit text found rest → common_fronts limit text ≡ None
-loop-no_part limit text found new rest after h e r =
-    grind (arith, stops-part limit r.bytes rest (passed-none found new (part_front limit rest) after h e))
-
-pub loop-ends : (limit : ℕ) (text : List ℕ) (found new : List (Span VersionValue)) (rest left : List ℕ) → Step limit found new rest left
-    → after_bars left ≡ None → Reaches limit text found rest → common_fronts limit text ≡ Some (new, left)
-loop-ends limit text found new rest left s none r =
-    let a = added-by limit found new rest left s in
-    grind (arith, ends-there limit r.bytes rest left a.interval_is r.room a.found none)
-
--- bars stand behind a part
-bars-there : (limit : ℕ) (rest left next : List ℕ) (s : Span VersionValue) → part_front limit rest ≡ Some (s, left)
-    → after_bars left ≡ Some next → HasBars rest
-bars-there limit rest left next s h k =
-    grind (arith, nat_tests, behind-bars, bars-sound left next k, part-sound limit rest (s, left) h)
+-- bars stand behind it
+bars-there : (limit : ℕ) (rest next : List ℕ) (p : Span VersionValue × List ℕ) → part_front limit rest ≡ Some p
+    → after_bars p.1 ≡ Some next → HasBars rest
+bars-there limit rest next p h k = grind (arith, nat_tests, behind-bars, bars-sound p.1 next k, part-sound limit rest p h)
 
 pub loop-bars : (limit : ℕ) (text : List ℕ) (found new : List (Span VersionValue)) (rest left next : List ℕ)
-    → Step limit found new rest left → after_bars left ≡ Some next → Reaches limit text found rest → HasBars text
-loop-bars limit text found new rest left next s bars r =
-    grind (arith, nat_tests, bars-there, added-by limit found new rest left s)
+    → behind (Some left) new ≡ passed found (part_front limit rest) → after_bars left ≡ Some next
+    → Reaches limit text found rest → HasBars text
+loop-bars limit text found new rest left next added bars r = grind (arith, nat_tests, bars-there)
+
+pub loop-goes : (limit : ℕ) (text : List ℕ) (found new : List (Span VersionValue)) (rest left next : List ℕ)
+    → behind (Some left) new ≡ passed found (part_front limit rest) → after_bars left ≡ Some next
+    → Reaches limit text found rest → Reaches limit text new next
+loop-goes limit text found new rest left next added bars r =
+    grind (arith, append_assoc, fronts-step limit rest, loop-bars limit text found new rest left next added bars r)
+
+pub loop-shorter : (limit : ℕ) (found new : List (Span VersionValue)) (rest left next : List ℕ)
+    → behind (Some left) new ≡ passed found (part_front limit rest) → after_bars left ≡ Some next
+    → length next < length rest
+loop-shorter limit found new rest left next added bars = grind (arith, nat_tests, next-shorter)
 
 -- what holds of the list of a common text holds of a list that it means
 pub common_so : (P : List (Span VersionValue) → Type 0) (limit : ℕ) (text : List ℕ) (list : List (Span VersionValue))
     → IsCommonRange limit text list → IsSomeAnd (if_any list) P
     → (r : List (Span VersionValue)) × IsCommonRange limit text r × P r
-common_so P limit text [] is h = absurd (omega (arith, list-some limit text [] is.0))
-common_so P limit text (s ∷ list) is h = (s ∷ list, is, h)
-
-pub loop-goes : (limit : ℕ) (text : List ℕ) (found new : List (Span VersionValue)) (rest left next : List ℕ)
-    → Step limit found new rest left
-    → after_bars left ≡ Some next → Reaches limit text found rest → Reaches limit text new next
-loop-goes limit text found new rest left next s bars r =
-    let a = added-by limit found new rest left s in
-    let g = goes-on limit r.bytes rest left next a.interval_is r.room a.found bars in
-    let b = loop-bars limit text found new rest left next s bars r in
-    grind (arith, append_assoc, b)
-
-pub loop-shorter : (limit : ℕ) (found new : List (Span VersionValue)) (rest left next : List ℕ) → Step limit found new rest left → after_bars left ≡ Some next → length next < length rest
-loop-shorter limit found new rest left next s bars = grind (arith, nat_tests, next-shorter, added-by limit found new rest left s)
+common_so P limit text list is h = grind (arith, nat_tests, common_steps, list-some)
 
 -- ---- a text at whose front parts stand
 
@@ -563,47 +486,38 @@ taken-is text x rest h =
 
 pub front-taken : (limit : ℕ) (text : List ℕ) (list : List (Span VersionValue)) (rest : List ℕ) → common_fronts limit text ≡ Some (list, rest)
     → (length rest ≤ length text) × AreCommonParts limit (take (length text - length rest) text) list
-front-taken limit text list rest h =
-    let r = front_is_read limit text (list, rest) h in
-    (omega (arith, ap length r.1, length-append r.0 rest), rw (taken-is text r.0 rest r.1) r.2)
+front-taken limit text list rest h = grind (arith, front_is_read, length-append, taken-is)
 
--- the bytes of the parts
+-- the bytes of the parts: those of partials, spaces and bars
 abbrev is_range_byte : ℕ → Bool
-is_range_byte b = is_part_byte b || b == 124
+is_range_byte b = is_partial_byte b || (b == 32 || b == 124)
+
+sign-bytes : (c : Comparator) (sign : List ℕ) → IsSign c sign → list_all is_range_byte sign ≡ true
+sign-bytes c sign is = grind arith
+
+comparison-bytes : (limit : ℕ) (x : List ℕ) (w : Word) → IsComparison limit x w → list_all is_range_byte x ≡ true
+comparison-bytes limit x w (comparison c sign text p is h) =
+    grind (arith, all_weaker, list_all-append, sign-bytes c sign is, components-bytes limit text p h)
+
+word-bytes : (limit : ℕ) (x : List ℕ) (w : Word) → IsCommonWord limit x w → list_all is_range_byte x ≡ true
+word-bytes limit x w h = grind (arith, all_weaker, list_all-append, components-bytes, comparison-bytes)
+
+part-bytes : (limit : ℕ) (x : List ℕ) (s : Span VersionValue) → IsCommonPart limit x s → list_all is_range_byte x ≡ true
+part-bytes limit x s h = grind (arith, list_all-append, word-bytes, comparison-bytes)
 
 range-bytes : (limit : ℕ) (text : List ℕ) (list : List (Span VersionValue)) → AreCommonParts limit text list
     → list_all is_range_byte text ≡ true
-range-bytes limit text list (one_part part s is) = grind (arith, all_weaker, part-tidy limit part s is)
+range-bytes limit text list (one_part part s is) = part-bytes limit part s is
 range-bytes limit text list (more_parts part before after rest s others is b a more) =
-    grind (arith, all_weaker, list_all-append, part-tidy limit part s is, range-bytes limit rest others more)
+    grind (arith, list_all-append, part-bytes limit part s is, range-bytes limit rest others more)
 
-sign-open : (c : Comparator) (sign : List ℕ) → IsSign c sign → list_all is_open sign ≡ true
-sign-open c sign is = grind arith
-
-comparison-open : (limit : ℕ) (x : List ℕ) (w : Word) → IsComparison limit x w → list_all is_open x ≡ true
-comparison-open limit x w (comparison c sign text p is h) =
-    grind (arith, list_all-append, sign-open c sign is, components-open limit text p h)
-
-word-open : (limit : ℕ) (x : List ℕ) (w : Word) → IsCommonWord limit x w → list_all is_open x ≡ true
-word-open limit x w h = grind (arith, list_all-append, components-open, comparison-open)
-
-part-open : (limit : ℕ) (x : List ℕ) (s : Span VersionValue) → IsCommonPart limit x s → list_all is_open x ≡ true
-part-open limit x s h = grind (arith, list_all-append, word-open, comparison-open)
-
-parts-open : (limit : ℕ) (text : List ℕ) (list : List (Span VersionValue)) → AreCommonParts limit text list
-    → list_all is_open text ≡ true
-parts-open limit text list (one_part part s is) = part-open limit part s is
-parts-open limit text list (more_parts part before after rest s others is b a more) =
-    grind (arith, list_all-append, part-open limit part s is, parts-open limit rest others more)
-
-plain-bytes : (text : List ℕ) → list_all is_range_byte text ≡ true → list_all is_open text ≡ true
-    → list_any (λ b. b == 59 || b == 10) text ≡ false
-plain-bytes [] h k = refl
-plain-bytes (b ∷ text) h k = grind (arith, nat_tests, plain-bytes text)
+plain-bytes : (text : List ℕ) → list_all is_range_byte text ≡ true → list_any (λ b. b == 59 || b == 10) text ≡ false
+plain-bytes [] h = refl
+plain-bytes (b ∷ text) h = grind (arith, nat_tests, plain-bytes text)
 
 pub parts-plain : (limit : ℕ) (text : List ℕ) (list : List (Span VersionValue)) → AreCommonParts limit text list
     → list_any (λ b. b == 59 || b == 10) text ≡ false
-parts-plain limit text list h = plain-bytes text (range-bytes limit text list h) (parts-open limit text list h)
+parts-plain limit text list h = plain-bytes text (range-bytes limit text list h)
 
 bytes-ascii : (text : List ℕ) → list_all is_range_byte text ≡ true → IsAscii text
 bytes-ascii [] h = IsAscii-nil

@@ -4,7 +4,7 @@ use Rattle.nodejs_semver.proofs.Common.{all_weaker, and_from, append-nil, append
 use Rattle.nodejs_semver.proofs.Common.{drop_spaces-none, ends, false, hyphen, is_boundary, is_sign, joined_from, list_all, meet, nat_tests}
 use Rattle.nodejs_semver.proofs.Common.{part_intervals, partial_front, plain, precedence, precedence_total, refl, runs_from, space_len, sym, table}
 use Rattle.nodejs_semver.proofs.Common.{tilde, tilde_sign, true, word_at, words, words_within, ℕ, ◌++◌, ◌==◌, ◌||◌, ◌∙◌, ◌∷◌, ◌≡◌}
-use Rattle.nodejs_semver.proofs.{Dividing.RunLemmas.{joined-goes, runs-joined}, Reading.PartialLaw.{components-begin, components-solid, front-exact}}
+use Rattle.nodejs_semver.proofs.{Dividing.RunLemmas.{joined-goes, runs-joined}, Reading.PartialLaw.{components-begin, components-bytes, front-exact}}
 use Rattle.nodejs_semver.{proofs.Reading.{PartialLaw.words-step, WordLaw.{compared-of, unsigned-at}}, specs.Internal.Words.or_equal}
 use Rattle.semver_core.proofs.Reading.Bytes.{Stop, all-end, all-join, begins-on, begins_component, component-solid, ends-append, ends-some, is_solid}
 use Rattle.semver_core.proofs.Reading.Bytes.{solid-dark, stop-nil, stop-space}
@@ -30,7 +30,7 @@ pub compact-spaced : (u v : List ℕ) → Compact u → Compact v → Compact (u
 compact-spaced u v c d = grind (arith, nat_tests, common_steps, compact-join, ends-append, ends-some)
 
 pub compact-partial : (limit : ℕ) (x : List ℕ) (p : Partial) → AreComponents limit x p → Compact x
-compact-partial limit x p h = grind (arith, components-solid, components-begin, all_weaker, all-end)
+compact-partial limit x p h = grind (arith, components-bytes, components-begin, all_weaker, all-end)
 
 pub compact-signed : (b : ℕ) (text : List ℕ) → is_solid b ≡ true → Compact text → Compact (b ∷ text)
 compact-signed b text h c = compact-join (b ∷ []) text h (and_from (is_part_byte b) true (rw h refl) refl) c.each c.end

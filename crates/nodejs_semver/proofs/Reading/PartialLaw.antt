@@ -1,7 +1,7 @@
 -- The partial that is read at the front of a text is the longest one that is written there.
 use Rattle.nodejs_semver.proofs.Common.{AreComponents, Front, Id, IsBuild, IsCharBoundary-after_ascii, IsIdentifiers, IsNumber, IsPreRelease}
 use Rattle.nodejs_semver.proofs.Common.{IsUtf8, IsUtf8-drop, List, None, Option, Partial, Sign, Some, Word, [], all_weaker, ap}
-use Rattle.nodejs_semver.proofs.Common.{Bool, append-nil, append_assoc, arith, begins, bind_some, cases_Bool, common_steps, not}
+use Rattle.nodejs_semver.proofs.Common.{Bool, ◌&&◌, append-nil, append_assoc, arith, begins, bind_some, cases_Bool, common_steps, not}
 use Rattle.nodejs_semver.proofs.Common.{component_front, cond_some, drop, drop_at, drop_spaces, drop_spaces-blank, drop_spaces-none, encode_utf8_all}
 use Rattle.nodejs_semver.proofs.Common.{eqb-true, false, from_boundary, inl, inr, is_ascii_digit, is_boundary, is_whitespace, length}
 use Rattle.nodejs_semver.proofs.Common.{length-append, list_all, nat_lt, nat_tests, partial_front, pieces, refl, same_Some, sign_at}
@@ -20,10 +20,6 @@ use Rattle.semver_core.specs.{Internal.Fronts.{drop_v, number_front, pre_release
 use Rattle.semver_core.proofs.Reading.Boundaries.{boundary-le, front-dark, no-boundary, spaced, spaces-gone, spaces-le}
 use Rattle.semver_core.proofs.Reading.Qualifiers.{build-read, build_front-le}
 use Rattle.semver_core.proofs.Reading.Qualifiers.{pre-read, pre_release_front-le, qualifier-passed}
-
--- ---- what is read is written
-
--- ---- what is written is read
 
 -- ---- one component
 
@@ -139,10 +135,6 @@ minor_front-le limit a x None h = omega arith
 minor_front-le limit a x (Some b) h =
     omega (arith, dotted_front-le limit x b.0 b.1 h, patch_front-le limit a b.0 b.1 (dotted_front limit b.1) refl)
 
-pub component-shorter : (limit : ℕ) (x : List ℕ) (v : Option ℕ) (r : List ℕ) → component_front limit x ≡ Some (v, r)
-    → length r < length x
-component-shorter limit x v r h = grind (arith, component-read, length-append)
-
 pub record Passes (r : Partial × List ℕ) (p : Partial) (more : List ℕ) : Type 0 where
   pub le : length r.1 ≤ length more
   pub exact : Stop more → r ≡ (p, more)
@@ -179,64 +171,52 @@ components-then limit x more p (three c d e pre build q h k l quiet_e m n) quiet
 
 -- ---- the bytes of a partial
 
-identifiers-solid : (text : List ℕ) → tail_runs (pieces text) ≡ true → list_all is_solid text ≡ true
-identifiers-solid [] h = refl
-identifiers-solid (b ∷ rest) h = grind (arith, nat_tests, common_steps, runs_tail, first_char, tail_onto, identifiers-solid rest)
+-- a visible character of ASCII other than the bar and the `;`
+abbrev pub is_partial_byte : ℕ → Bool
+is_partial_byte b = is_solid b && not (b == 59)
 
-list-solid : (text : List ℕ) (l : List Id) → IsIdentifiers text l → list_all is_solid text ≡ true
-list-solid text l h = identifiers-solid text (runs_tail (pieces text) h.runs)
+identifiers-bytes : (text : List ℕ) → tail_runs (pieces text) ≡ true → list_all is_partial_byte text ≡ true
+identifiers-bytes [] h = refl
+identifiers-bytes (b ∷ rest) h = grind (arith, nat_tests, common_steps, runs_tail, first_char, tail_onto, identifiers-bytes rest)
 
-pub number-solid : (limit : ℕ) (x : List ℕ) (v : Option ℕ) → IsComponent limit x v → list_all is_solid x ≡ true
-number-solid limit x v h = grind (arith, all_weaker)
+list-bytes : (text : List ℕ) (l : List Id) → IsIdentifiers text l → list_all is_partial_byte text ≡ true
+list-bytes text l h = identifiers-bytes text (runs_tail (pieces text) h.runs)
+
+number-bytes : (limit : ℕ) (x : List ℕ) (v : Option ℕ) → IsComponent limit x v → list_all is_partial_byte x ≡ true
+number-bytes limit x v h = grind (arith, all_weaker)
+
+pre-bytes : (p rest : List ℕ) (l : List Id) → IsPreRelease p rest l → list_all is_partial_byte p ≡ true
+pre-bytes p rest l h = grind (arith, list-bytes)
+
+build-bytes : (b rest : List ℕ) (l : List Id) → IsBuild b rest l → list_all is_partial_byte b ≡ true
+build-bytes b rest l h = grind (arith, list-bytes)
+
+pub components-bytes : (limit : ℕ) (x : List ℕ) (p : Partial) → AreComponents limit x p → list_all is_partial_byte x ≡ true
+components-bytes limit x p h = grind (arith, number-bytes, all-join, pre-bytes, build-bytes)
 
 pub digits-solid : (limit : ℕ) (d : List ℕ) (n : ℕ) → IsNumber limit d n → list_all is_solid d ≡ true
-digits-solid limit d n h = number-solid limit d (Some n) (number d n h)
+digits-solid limit d n h = grind (arith, all_weaker)
 
 pub pre-solid : (p rest : List ℕ) (l : List Id) → IsPreRelease p rest l → list_all is_solid p ≡ true
-pre-solid p rest l h = grind (arith, list-solid)
+pre-solid p rest l h = grind (arith, all_weaker, pre-bytes)
 
 pub build-solid : (b rest : List ℕ) (l : List Id) → IsBuild b rest l → list_all is_solid b ≡ true
-build-solid b rest l h = grind (arith, list-solid)
-
-pub components-solid : (limit : ℕ) (x : List ℕ) (p : Partial) → AreComponents limit x p → list_all is_solid x ≡ true
-components-solid limit x p h = grind (arith, number-solid, all-join, pre-solid, build-solid)
-
--- no `;` stands in a partial
-abbrev pub is_open : ℕ → Bool
-is_open b = not (b == 59)
-
-identifiers-open : (text : List ℕ) → tail_runs (pieces text) ≡ true → list_all is_open text ≡ true
-identifiers-open [] h = refl
-identifiers-open (b ∷ rest) h = grind (arith, nat_tests, common_steps, runs_tail, first_char, tail_onto, identifiers-open rest)
-
-list-open : (text : List ℕ) (l : List Id) → IsIdentifiers text l → list_all is_open text ≡ true
-list-open text l h = identifiers-open text (runs_tail (pieces text) h.runs)
-
-number-open : (limit : ℕ) (x : List ℕ) (v : Option ℕ) → IsComponent limit x v → list_all is_open x ≡ true
-number-open limit x v h = grind (arith, all_weaker)
-
-pre-open : (p rest : List ℕ) (l : List Id) → IsPreRelease p rest l → list_all is_open p ≡ true
-pre-open p rest l h = grind (arith, list-open)
-
-build-open : (b rest : List ℕ) (l : List Id) → IsBuild b rest l → list_all is_open b ≡ true
-build-open b rest l h = grind (arith, list-open)
-
-pub components-open : (limit : ℕ) (x : List ℕ) (p : Partial) → AreComponents limit x p → list_all is_open x ≡ true
-components-open limit x p h = grind (arith, number-open, all-join, pre-open, build-open)
+build-solid b rest l h = grind (arith, all_weaker, build-bytes)
 
 -- ---- each word takes a byte or more, so the list of words is a recursion
 
-partial-shorter : (limit : ℕ) (text : List ℕ) (x : Partial) (r : List ℕ) → partial_front limit text ≡ Some (x, r)
-    → length r < length text
+pub front-read : (limit : ℕ) (text : List ℕ) (p : Partial) (rest : List ℕ) → partial_front limit text ≡ Some (p, rest)
+    → (s : List ℕ) × Read limit (drop_spaces (drop_v text)) s rest p
 unfolding partial_front
-partial-shorter limit text x r h =
-    let body = drop_spaces (drop_v text) in
-    let a = bind_some (component_front limit body) (λ a. Some (minor_front limit a.0 a.1 (dotted_front limit a.1))) (x, r) h in
-    let same = same_Some (minor_front limit a.0.0 a.0.1 (dotted_front limit a.0.1)) (x, r) a.2 in
-    let some = component-shorter limit body a.0.0 a.0.1 a.1 in
-    let others = minor_front-le limit a.0.0 a.0.1 (dotted_front limit a.0.1) refl in
+front-read limit text p rest h = grind (arith, components-read)
+
+partial-shorter : (limit : ℕ) (text : List ℕ) (r : Partial × List ℕ) → partial_front limit text ≡ Some r
+    → length r.1 < length text
+partial-shorter limit text r h =
+    let s = front-read limit text r.0 r.1 h in
+    let some = begins-some is_component_byte s.0 (components-begin limit s.0 r.0 s.1.is) in
     let mark : length (drop_v text) ≤ length text = grind arith in
-    omega (arith, some, others, mark, spaces-le (drop_v text), ap (λ (q : Partial × List ℕ). length q.1) same)
+    omega (arith, some, mark, spaces-le (drop_v text), ap length s.1.split, length-append s.0 r.1)
 
 some-space-le : (text r : List ℕ) → after_some_space text ≡ Some r → length r ≤ length text
 some-space-le text r h = omega (arith, ap length (cond_some (nat_lt 0 (space_len text)) (drop_spaces text) r h).1, spaces-le text)
@@ -252,7 +232,7 @@ upper-le limit unsigned text q h =
     let second = bind_some (after_some_space gap.0) _ q gap.2 in
     let read = bind_some (partial_front limit second.0) _ q second.2 in
     let same : read.0 ≡ q = (cond_some (is_boundary read.0.1) read.0 q read.2).1 in
-    let less = partial-shorter limit second.0 read.0.0 read.0.1 read.1 in
+    let less = partial-shorter limit second.0 read.0 read.1 in
     let len = ap (λ (x : Partial × List ℕ). length x.1) same in
     omega (arith, some-space-le text sign.0 sign.1, byte-le 45 sign.0 gap.0 gap.1, some-space-le gap.0 second.0 second.1, less, len)
 upper-le limit s text q h = cc h
@@ -272,7 +252,7 @@ form-shorter : (limit : ℕ) (text : List ℕ) (x : Word) (r : List ℕ) → beh
 form-shorter limit text x r h =
     let s = sign_at text in
     let p = bind_some (partial_front limit s.1) (λ p. word_behind limit s.0 p.0 p.1) (x, r) h in
-    omega (arith, sign_at-le text, partial-shorter limit s.1 p.0.0 p.0.1 p.1, word_behind-le limit s.0 p.0.0 p.0.1 x r p.2)
+    omega (arith, sign_at-le text, partial-shorter limit s.1 p.0 p.1, word_behind-le limit s.0 p.0.0 p.0.1 x r p.2)
 
 -- a word that begins with no whitespace takes a byte or more
 pub word-shorter : (limit b : ℕ) (rest : List ℕ) → space_len (b ∷ rest) ≡ 0 → length (word_at limit (b ∷ rest)).1 < length (b ∷ rest)
@@ -336,11 +316,6 @@ marked (b ∷ rest) u = elim (cases_Bool (b == 118)) [
 ]
 
 -- ---- what is read is written, and what is written is read
-
-pub front-read : (limit : ℕ) (text : List ℕ) (p : Partial) (rest : List ℕ) → partial_front limit text ≡ Some (p, rest)
-    → (s : List ℕ) × Read limit (drop_spaces (drop_v text)) s rest p
-unfolding partial_front
-front-read limit text p rest h = grind (arith, components-read)
 
 front-begins : (limit : ℕ) (text : List ℕ) (p : Partial) (rest : List ℕ) → IsUtf8 text → partial_front limit text ≡ Some (p, rest)
     → (front : List ℕ) × BeginsPartial limit text front p rest

@@ -18,15 +18,11 @@ use Rattle.semver_core.proofs.Reading.Boundaries.{blank-len, boundary-of, bounda
 use Rattle.semver_core.proofs.Reading.Boundaries.{skips-is, skips-of, skips-utf8, some_space-is}
 use Rattle.semver_core.proofs.Reading.Boundaries.{suffix-boundary, tail-utf8}
 
--- ---- UTF-8 behind a byte, and behind characters
-
 -- ---- boundaries
 
 rest-utf8 : (limit : ℕ) (text : List ℕ) (p : Partial) (rest : List ℕ) → IsUtf8 text → IsLongestPartial limit text p rest
     → IsBoundary rest → IsUtf8 rest
 rest-utf8 limit text p rest u h b = boundary-utf8 h.0 rest (subst (λ (t : List ℕ). IsUtf8 t) h.1.0 u) b
-
--- ---- whitespace
 
 -- ---- partials up to a boundary
 
@@ -228,8 +224,6 @@ form-of limit text w rest u (tilde_greater_form t behind p r s h) =
 form-of limit text w rest u (caret_form t p r h) =
     rw (behind-read limit t p r (tail-utf8 94 t (omega arith) u) h, boundary-of r h.2.ended) refl
 
--- ---- the next boundary
-
 -- ---- the word
 
 word-is : (limit : ℕ) (text : List ℕ) → IsUtf8 text → IsWordAt limit text (word_at limit text).0 (word_at limit text).1
@@ -249,17 +243,14 @@ word-of limit text word rest u (no_form t r none h) = elim (option-cases (behind
 ]
 
 -- what follows a word is UTF-8
-whole-utf8 : (limit : ℕ) (text : List ℕ) (p : Partial) (rest : List ℕ) → IsUtf8 text → IsWhole limit text p rest → IsUtf8 rest
-whole-utf8 limit text p rest u h = rest-utf8 limit text p rest u h.read h.ended
-
 behind-utf8 : (limit : ℕ) (text : List ℕ) (p : Partial) (rest : List ℕ) → IsUtf8 text → IsBehind limit text p rest → IsUtf8 rest
-behind-utf8 limit text p rest u h = whole-utf8 limit h.0 p rest (skips-utf8 text h.0 h.1 u) h.2
+behind-utf8 limit text p rest u h = rest-utf8 limit h.0 p rest (skips-utf8 text h.0 h.1 u) h.2.read h.2.ended
 
 form-utf8 : (limit : ℕ) (text : List ℕ) (w : Word) (rest : List ℕ) → IsUtf8 text → IsForm limit text w rest → IsUtf8 rest
 form-utf8 limit text w rest u (hyphen_form t lower upper r h) =
     let v = rest-utf8 limit t lower h.0 u h.2 (inr h.3) in
     behind-utf8 limit h.1 upper r (tail-utf8 45 h.1 (omega arith) (skips-utf8 h.0 (45 ∷ h.1) h.4 v)) h.6
-form-utf8 limit text w rest u (plain_form t p r h none) = whole-utf8 limit t p r u h
+form-utf8 limit text w rest u (plain_form t p r h none) = rest-utf8 limit t p r u h.read h.ended
 form-utf8 limit text w rest u (compare_form c sign t p r s h) = behind-utf8 limit t p r (sign-utf8 c sign t s u) h
 form-utf8 limit text w rest u (tilde_form t p r h) = behind-utf8 limit t p r (tail-utf8 126 t (omega arith) u) h
 form-utf8 limit text w rest u (tilde_greater_form t behind p r s h) =

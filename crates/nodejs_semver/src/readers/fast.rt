@@ -148,6 +148,7 @@ fn push_rare<'a, S: Found<'a>>(
 
 // Adds what two comparisons have in common, where that is an interval. Mostly the first one has a
 // lower bound and the second an upper one.
+#[tactic(auto, using(crate::proofs::Everyday::Parts::half_open))]
 fn push_both<'a, S: Found<'a>>(
     one: Bounds<'a>,
     two: Bounds<'a>,

@@ -1,6 +1,7 @@
+use Rattle.nodejs_semver.proofs.Common.{nat_tests, common_steps, arith}
 use Rattle.nodejs_semver.proofs.Common.{Front, IfOk, List, MAX_SAFE_INTEGER, Span, VersionValue, ap, begins_second, comparison_front}
 use Rattle.nodejs_semver.proofs.Common.{comparisons_front, passed, refl, rules, subst, sym, take_rest, true, word_read, ℕ, ◌∙◌, ◌≡◌}
-use Rattle.nodejs_semver.{proofs.Everyday.Parts.{first-read, none-second, second-read}, specs.Internal.CommonFronts.part_read}
+use Rattle.nodejs_semver.{proofs.Everyday.Parts.{first-read, none-second, second-read}}
 use Rattle.{nodejs_semver.specs.Internal.CommonViews.{bounds_front_view, passed_view}, semver_pieces.specs.Internal.Views.bounds_view}
 use Rattle.nodejs_semver.proofs.readers.fast.push_comparisons.Goals as goal
 
@@ -10,20 +11,11 @@ returns-in_default-clause-added g c = rw (sym c.comparison.ensures ∙ ap bounds
 
 pub returns-then-not-matches-clause-added : goal.returns-then-not-matches-clause-added
 returns-then-not-matches-clause-added g c =
-    let a = bounds_view c.in-Some.first in
-    let rest = c.in-Some.rest.now in
-    subst (λ (o : Front (Span VersionValue)). IfOk c.push.result (λ r. passed_view r (g.S.Found.items c.push.new.found) ≡ passed (g.S.Found.items c.args.found.now) o))
-    (ap (part_read rest) c.between.ensures
-    ∙ first-read MAX_SAFE_INTEGER c.args.text.now a rest (sym (ap bounds_front_view c.in-Some.is) ∙ c.comparison.ensures) (search rules)) c.push.ensures.added
+    grind (arith, first-read)
 
 pub returns-in-None-clause-added : goal.returns-in-None-clause-added
 returns-in-None-clause-added g c =
-    let rest = c.in-Some.rest.now in
-    let second : begins_second rest ≡ true = search rules in
-    ap (λ (o : Front (Span VersionValue)). passed (g.S.Found.items c.args.found.now) o)
-    (sym (none-second MAX_SAFE_INTEGER c.args.text.now (bounds_view c.in-Some.first) rest (sym (ap bounds_front_view c.in-Some.is) ∙ c.comparison.ensures)
-    second (ap (λ (t : List ℕ). word_read MAX_SAFE_INTEGER (comparison_front MAX_SAFE_INTEGER t)) (sym (take_rest rest 1))
-    ∙ (sym c.comparison-2.ensures ∙ ap bounds_front_view c.in-None.is))))
+    grind (arith, nat_tests, common_steps, none-second, take_rest)
 
 pub returns-in-Some-comparison-clause-added : goal.returns-in-Some-comparison-clause-added
 returns-in-Some-comparison-clause-added g c =

@@ -1,7 +1,7 @@
-use Rattle.nodejs_semver.proofs.Common.{◌≡◌, None, Some, ap, true, false, rules, ◌∙◌, sym, refl, hyphen, MAX_SAFE_INTEGER, from_boundary, is_boundary}
+use Rattle.nodejs_semver.proofs.Common.{◌≡◌, arith, None, Some, ap, true, false, rules, ◌∙◌, sym, refl, hyphen, MAX_SAFE_INTEGER, from_boundary, is_boundary}
 use Rattle.nodejs_semver.proofs.{Reading.WordLaw.{word-as}, Diagnosing.IgnoredParts.{read-formed, read-malformed, signed-formed}}
 use Rattle.nodejs_semver.proofs.Bounds.TableReadings.{settled}
-use Rattle.nodejs_semver.specs.Internal.{Readings.{partial_front_view, partial_view, sign_view, table_view}, Words.{signed_word}}
+use Rattle.nodejs_semver.specs.Internal.{Readings.{partial_front_view, partial_view, sign_view, table_view}}
 use Rattle.nodejs_semver.proofs.readers.intervals.word_front.Goals as goal
 
 pub returns-in_default : goal.returns-in_default
@@ -28,9 +28,7 @@ returns-then-not-is_boundary c =
     c.skip_to_boundary-then-not-is_boundary.ensures
 
 pub ordered-requires : goal.ordered-requires
-ordered-requires c =
-    let word = signed_word (sign_view c.sign_front-sign.result.0) (partial_view c.in-Some.partial) in
-    settled MAX_SAFE_INTEGER word c.in-Some-signed.bounds (ap table_view (sym c.in-Some-signed.is) ∙ c.signed.ensures)
+ordered-requires c = grind (arith, settled)
 
 pub returns-in-Some-signed : goal.returns-in-Some-signed
 returns-in-Some-signed c =

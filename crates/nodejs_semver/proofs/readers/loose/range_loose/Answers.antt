@@ -1,6 +1,6 @@
-use Rattle.nodejs_semver.proofs.Common.{◌≡◌, ◌+◌, ℕ, List, arith, ap, inl, length, ◌∙◌, MatchResult-from_err, on_err_weaker, list_all}
+use Rattle.nodejs_semver.proofs.Common.{◌≡◌, ◌+◌, ℕ, List, arith, ap, inl, length, ◌∙◌, MatchResult-from_err, list_all}
 use Rattle.nodejs_semver.proofs.Common.{flat_map, Span, VersionValue, MAX_SAFE_INTEGER, if_any, is_range_span, parts, denotes, part_denotes}
-use Rattle.nodejs_semver.proofs.Common.{IfOk-weaker}
+use Rattle.nodejs_semver.proofs.Common.{IfOk-weaker, nat_tests}
 use Rattle.nodejs_semver.proofs.{Values.{spans_same}, Bounds.Table.{all-bounded}}
 use Rattle.nodejs_semver.proofs.Dividing.MeaningLaw.{filled_denotes, filled_text, found_so, meant_none, meant_so, meant_some}
 use Rattle.nodejs_semver.proofs.readers.loose.range_loose.Goals as goal
@@ -24,9 +24,7 @@ pub returns-clause-none : goal.returns-clause-none
 returns-clause-none c = grind (arith, IfOk-weaker, meant_none, spans_same)
 
 pub returns-clause-memory : goal.returns-clause-memory
-returns-clause-memory c =
-    on_err_weaker c.owned_range.result (λ m. found_so _ MAX_SAFE_INTEGER c.args.text.now c.add_parts.new.found.items c.utf8.text
-    (found-is c) (rw (c.of_intervals.ensures, spans_same) at m)) c.owned_range.ensures.memory
+returns-clause-memory c = grind (arith, nat_tests, found_so, found-is, spans_same)
 
 pub returns-in_err-add_parts-clause-memory : goal.returns-in_err-add_parts-clause-memory
 returns-in_err-add_parts-clause-memory c =

@@ -1,1 +1,0 @@
--- The parts of a text, cut at its bars.

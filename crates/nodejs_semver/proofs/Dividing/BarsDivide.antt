@@ -1,1 +1,0 @@
--- For proofs. A text has one division at its bars, which is the one that `cut_bars` computes.

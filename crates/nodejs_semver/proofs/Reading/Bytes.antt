@@ -1,1 +1,0 @@
--- What the bytes of a text are: the first, the last, and all of them; and where a piece of it ends.

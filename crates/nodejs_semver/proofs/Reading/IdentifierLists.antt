@@ -1,1 +1,0 @@
--- Identifiers joined by dots: the longest list at the front of a text.

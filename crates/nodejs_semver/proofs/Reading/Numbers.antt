@@ -1,1 +1,0 @@
--- Numbers: as a whole text, and at the front of one.

@@ -1,1 +1,0 @@
--- The steps of a reading, each of which may fail.
