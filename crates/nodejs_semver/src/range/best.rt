@@ -7,8 +7,8 @@ ghost use Rattle.nodejs_semver.specs.Words.{IsMax, IsMaxOf, IsMin, List, list_al
 ghost use Rattle.nodejs_semver.specs.Words.{option_copied, option_map, precedence, replaces, Some};
 ghost use Rattle.nodejs_semver.specs.Words.{spans_of, true, VersionValue};
 
-use crate::range::gate::accepts;
 use crate::RangeOf;
+use crate::range::gate::accepts;
 use semver_core::cuts::Interval;
 use semver_core::{VersionPoint, Versioned};
 

@@ -72,8 +72,20 @@ pre_release_cmp (x ∷ xs) (y ∷ ys) q r h k = ids_cmp (x ∷ xs) (y ∷ ys) q 
 
 pub key_followed : (v w : VersionValue) (r s : List ℕ) → IsVersion v → IsVersion w
     → bytes_cmp (key v ++ r) (key w ++ s) ≡ ordering_then (precedence v w) (bytes_cmp r s)
-key_followed v w r s h k = simp (append_assoc, number_cmp, pre_release_cmp, then_assoc, h.major, h.minor, h.patch, h.pre_release,
-    k.major, k.minor, k.patch, k.pre_release)
+key_followed v w r s h k = simp (
+  append_assoc,
+  number_cmp,
+  pre_release_cmp,
+  then_assoc,
+  h.major,
+  h.minor,
+  h.patch,
+  h.pre_release,
+  k.major,
+  k.minor,
+  k.patch,
+  k.pre_release,
+)
 
 pub key_cmp : (v w : VersionValue) → IsVersion v → IsVersion w → slice_cmp nat_cmp (key v) (key w) ≡ precedence v w
 key_cmp v w h k = simp (append-nil, then_equal) at (key_followed v w [] [] h k)

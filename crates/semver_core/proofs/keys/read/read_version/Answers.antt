@@ -8,6 +8,6 @@ pub read_ids-requires : goal.read_ids-requires
 read_ids-requires c = ids_of_pre _ c.requires c.if-starts_with.ensures.value
 
 pub returns-clause-some : goal.returns-clause-some
-returns-clause-some c = 
+returns-clause-some c =
     let pre = pre_of_ids c.args.bytes.now _ c.requires c.in_ok-ids.ensures in
     grind (arith, common_steps, take-length, drop-length)
