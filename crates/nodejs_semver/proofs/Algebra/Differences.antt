@@ -76,8 +76,7 @@ module _ {V : Type 0} {R : V → V → Ordering} (o : IsTotalOrder R) where
 
   remainder_is : (s t : Span V) → is_interval R s ≡ true → is_interval R t ≡ true → remainder R s t ≡ below s t.lower ++ above s t.upper
   remainder_is s t h k = remainders_by o s t (λ r. (option_to_list r.0 ++ option_to_list r.1) ≡ below s t.lower ++ above s t.upper)
-      (λ e. let m = between_parts o s.lower t.lower s.upper t.upper e in
-      ap₂ (λ l k. l ++ k) (below_met s t m.1.0) (above_met s t m.0.1))
+      (λ e. grind (arith, between_parts, below_met, above_met))
       (λ e. elim (cases_Bool (lt o (lower_cut t.lower) (upper_cut s.upper))) [
         | inr f ↦
             let i = below_upto o (lower_cut s.lower) (upper_cut s.upper) (lower_cut t.lower) h f in
@@ -200,8 +199,7 @@ module _ {V : Type 0} {R : V → V → Ordering} (o : IsTotalOrder R) where
 
   along_remainders : (a : Cut V) (cs : List (Span V)) (t : Span V) → IsAlong R a cs → IsAlong R a (flat_map (λ c. remainder R c t) cs)
   along_remainders a [] t h = tt
-  along_remainders a (c ∷ cs) t h = along_remainder a c t (flat_map (λ d. remainder R d t) cs)
-      (h.0, (h.1.0, along_remainders (upper_cut c.upper) cs t h.1.1))
+  along_remainders a (c ∷ cs) t h = grind (arith, along_remainder a c t, along_remainders (upper_cut c.upper) cs t)
 
   along_minus : (a : Cut V) (cs ts : List (Span V)) → IsAlong R a cs → IsAlong R a (minus R cs ts)
   along_minus a cs [] h = h
@@ -236,11 +234,10 @@ module _ {V : Type 0} {R : V → V → Ordering} (o : IsTotalOrder R) where
 
   ends_rise : (a : Cut V) (cs : List (Span V)) (i j : ℕ) (d : Span V) → IsAlong R a cs → i ≤ j → j < length cs
       → lt o (upper_cut (get_or cs j d).upper) (upper_cut (get_or cs i d).upper) ≡ false
-  ends_rise a [] i j d h l k = absurd (omega arith)
   ends_rise a (c ∷ cs) zero zero d h l k = irreflexive o (upper_cut c.upper)
   ends_rise a (c ∷ cs) zero (suc j) d h l k = ends_past (upper_cut c.upper) cs j d h.1.1 (omega arith)
-  ends_rise a (c ∷ cs) (suc i) zero d h l k = absurd (omega arith)
   ends_rise a (c ∷ cs) (suc i) (suc j) d h l k = ends_rise (upper_cut c.upper) cs i j d h.1.1 (omega arith) (omega arith)
+  ends_rise a cs i j d h l k = absurd (omega arith)
 
   -- the piece ends not above where s begins
   abbrev pub falls_short : Span V → Span V → Bool

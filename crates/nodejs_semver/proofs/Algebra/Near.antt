@@ -43,12 +43,11 @@ module _ {V : Type 0} {R : V → V → Ordering} (o : IsTotalOrder R) where
 
   begins_rise : (a : Cut V) (cs : List (Span V)) (i j : ℕ) (d : Span V) → IsAlong R a cs → i ≤ j → j < length cs
       → lt o (lower_cut (get_or cs j d).lower) (lower_cut (get_or cs i d).lower) ≡ false
-  begins_rise a [] i j d h l k = absurd (omega arith)
   begins_rise a (c ∷ cs) zero zero d h l k = irreflexive o (lower_cut c.lower)
-  begins_rise a (c ∷ cs) zero (suc j) d h l k = not_above o (lower_cut (get_or cs j d).lower) (lower_cut c.lower) (upper_cut c.upper) h.1.0
-      (begins_past (upper_cut c.upper) cs j d h.1.1 (omega arith))
-  begins_rise a (c ∷ cs) (suc i) zero d h l k = absurd (omega arith)
+  begins_rise a (c ∷ cs) zero (suc j) d h l k =
+      grind (arith, not_above, begins_past (upper_cut c.upper) cs j d h.1.1)
   begins_rise a (c ∷ cs) (suc i) (suc j) d h l k = begins_rise (upper_cut c.upper) cs i j d h.1.1 (omega arith) (omega arith)
+  begins_rise a cs i j d h l k = absurd (omega arith)
 
   pub begins_parted : (s : Span V) (a : Cut V) (cs : List (Span V)) → IsAlong R a cs
       → IsPartitionedBy (λ c. is_lt (cut_cmp R (lower_cut c.lower) (upper_cut s.upper))) cs
@@ -64,8 +63,8 @@ module _ {V : Type 0} {R : V → V → Ordering} (o : IsTotalOrder R) where
       → IsAlong R a cs
   along_at a [] h f k = tt
   along_at a (c ∷ cs) h f k =
-      let (one, others) = and_parts (is_interval R c) (list_all (is_interval R) cs) h in
-      (f c (omega arith), (one, along_at (upper_cut c.upper) cs others (λ d l. k 0 d (omega arith)) (λ i d l. k (suc i) d (omega arith))))
+      let next = along_at (upper_cut c.upper) cs _ (λ d l. k 0 d (omega arith)) (λ i d l. k (suc i) d (omega arith)) in
+      grind (arith, f c, next)
 
   -- neighbours of which none reaches the next stand along the line
   pub along_from : (cs : List (Span V)) → list_all (is_interval R) cs ≡ true

@@ -314,5 +314,4 @@ all_further is new rs k r i v l at n h m = grind (arith, list_all-append, take_n
 pub search_same : {W : Type 0} (value : W → VersionValue) (copies copies' : Bool) (ks ks' : List (List (Span VersionValue))) (ls ls' : List (Span W))
     (xs : List VersionValue) (best : Option VersionValue) → copies ≡ copies' → ks ≡ ks' → ls ≡ ls'
     → best ≡ fold (better_kept copies (wanted ks (spans_of value ls))) None xs → best ≡ fold (better_kept copies' (wanted ks' (spans_of value ls'))) None xs
-search_same value copies copies' ks ks' ls ls' xs best c k l h =
-    h ∙ λ i. fold (better_kept (c i) (wanted (k i) (spans_of value (l i)))) None xs
+search_same value copies copies' ks ks' ls ls' xs best c k l h = grind arith

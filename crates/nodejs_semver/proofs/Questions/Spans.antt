@@ -62,7 +62,7 @@ found_value f g p xs r e = map-twice f g r ∙ ap (option_map f) e ∙ sym (find
 
 find_all : {X : Type 0} (P : X → Type 0) (p : X → Bool) (xs : List X) → All P xs → IfSome (find p xs) P
 find_all P p [] h = tt
-find_all P p (x ∷ xs) h = cond_both (p x) (Some x) (find p xs) (λ o. IfSome o P) (λ _. All-head P x xs h) (λ _. find_all P p xs (All-tail P x xs h))
+find_all P p (x ∷ xs) h = cond_both (p x) (Some x) (find p xs) (λ o. IfSome o P) (λ _. h 0 x (omega arith)) (λ _. find_all P p xs (All-tail P x xs h))
 
 pub found_raisable : {A : Type 0} (g : A → Span VersionValue) (p : Span VersionValue → Bool) (ss : List (Span VersionValue)) (r : Option A)
     → option_map g r ≡ find p ss → All IsRaisable ss → IfSome r (λ a. Raisable (g a).lower)
@@ -250,17 +250,11 @@ build_names ss v h = of_first (find first ss) refl h
   where
     first : Span VersionValue → Bool
     first s = holds precedence s v && lets_in s v
-
-    of_start : (s : Span VersionValue) → find first ss ≡ Some s → (x : Option VersionValue) → begins_with s.lower ≡ x
-        → 0 < length (build_by x v) → names_identifiers ss ≡ true
-    of_start s e None b h = absurd (omega (arith, h))
-    of_start s e (Some x) b h = first_names first ss s e (begins_built s.lower x b (grind (arith, h)))
-
     of_first : (r : Option (Span VersionValue)) → find first ss ≡ r
         → 0 < length (build_by (option_and_then (λ s. begins_with s.lower) r) v)
         → names_identifiers ss ≡ true
     of_first None e h = absurd (omega (arith, h))
-    of_first (Some s) e h = of_start s e (begins_with s.lower) refl h
+    of_first (Some s) e h = grind (arith, first_names first ss s e, begins_built s.lower)
 
 -- the search for a least version
 pub one_names : (ks ls : List (Span VersionValue)) → MayAllocate true (ks ∷ []) ls
