@@ -25,11 +25,8 @@ module _ {V : Type 0} {R : V → V → Ordering} (o : IsTotalOrder R) where
   minus_one : (ss : List (Span V)) (t : Span V) (v : V) → list_holds R
       (flat_map (λ s. remainder R s t) ss) v ≡ (list_holds R ss v && not (holds R t v))
   minus_one [] t v = refl
-  minus_one (s ∷ ss) t v = grind (arith, list_any-append, left, spread, minus_one ss t v)
+  minus_one (s ∷ ss) t v = grind (arith, list_any-append, left, minus_one ss t v)
     where
-      spread : (a b c : Bool) → ((a && c) || (b && c)) ≡ ((a || b) && c)
-      spread a b c = grind arith
-
       left : list_holds R (remainder R s t) v ≡ (holds R s v && not (holds R t v))
       left = grind (arith, list_any-append, holds_option, remainders-hold)
 
@@ -126,7 +123,7 @@ accepts-minus ss (t ∷ ts) v h k =
 
 pub difference_accepts : (ss ts : List (Span VersionValue)) (v : VersionValue) → accepts ss v false ≡ true
     → list_holds precedence ts v ≡ false → option_accepts (if_any (minus precedence ss ts)) v false ≡ true
-difference_accepts ss ts v h k = option_accepts-if_any (minus precedence ss ts) v false ∙ accepts-minus ss ts v h k
+difference_accepts ss ts v h k = grind (arith, option_accepts-if_any, accepts-minus)
 
 -- of releases a list accepts those that it holds, and all with pre-releases included
 pub accepts-release : (ss : List (Span VersionValue)) (v : VersionValue) → is_release v ≡ true → accepts ss v false ≡ list_holds precedence ss v
@@ -149,7 +146,7 @@ meets_one_some R ss ts = grind (arith, any_same, option_some, any_flat, if_any_s
 -- no element up to here passes the test
 pub none_further : {A : Type 0} (p : A → Bool) (xs : List A) (i : ℕ) (x : A) → i < length xs → x ≡ get_or xs i x
     → list_any p (take i xs) ≡ false → p x ≡ false → list_any p (take (i + 1) xs) ≡ false
-none_further p xs i x within at h k = list_any_more p xs i x within ∙ rw (h, sym at, k) refl
+none_further p xs i x within at h k = grind (arith, list_any_more p xs i x)
 
 pub one_passes : {A : Type 0} (p : A → Bool) (xs : List A) (i : ℕ) (x : A) → i < length xs → x ≡ get_or xs i x → p x ≡ true → list_any p xs ≡ true
-one_passes p xs i x within at h = list_any_at p xs i x within (rw (sym at) h)
+one_passes p xs i x within at h = grind (arith, list_any_at p xs i x)

@@ -3,7 +3,7 @@ use Rattle.nodejs_semver.proofs.Algebra.Accepting.{accepts-held, accepts-release
 use Rattle.nodejs_semver.proofs.Common.{Bool, Bound, IfOk, IfOk-weaker, IsRange, IsTotalOrder, IsTrue, List, MAX_SAFE_INTEGER, None, Option, Ordering}
 use Rattle.nodejs_semver.proofs.Common.{Result, Some, Span, VersionValue, [], accepts, all_flat, all_weaker, and_from, and_parts, ap, append-nil, ap₂}
 use Rattle.nodejs_semver.proofs.Common.{arith, cond_both, cut_cmp, difference, false, first_so, flat_map, get_or, if_any, inl, inr, intersection}
-use Rattle.nodejs_semver.proofs.Common.{is_gt, is_interval, is_lt, is_range_bound, is_range_span, is_release, is_some, left_above, left_below, length}
+use Rattle.nodejs_semver.proofs.Common.{is_gt, is_interval, is_range_bound, is_range_span, is_release, is_some, left_above, left_below, length}
 use Rattle.nodejs_semver.proofs.Common.{length-map, list_all, list_all-append, list_holds, lower_cut, meet, meets_of, minus, not, option_accepts}
 use Rattle.nodejs_semver.proofs.Common.{option_list_holds, option_to_list, precedence, precedence_total, refl, remainder, remainders_by, span_of}
 use Rattle.nodejs_semver.proofs.Common.{spans_of, subst, sym, true, turned_lower, turned_upper, upper_cut, ℕ, ◌&&◌, ◌++◌, ◌+◌, ◌<◌, ◌∙◌, ◌∷◌, ◌≡◌}
@@ -16,10 +16,10 @@ module _ {V : Type 0} {R : V → V → Ordering} (o : IsTotalOrder R) (F : Bound
   is_fine s = is_interval R s && (F s.lower && F s.upper)
 
   fine_bounds : (s : Span V) → is_fine s ≡ true → (F s.lower ≡ true) × (F s.upper ≡ true)
-  fine_bounds s h = and_parts (F s.lower) (F s.upper) (and_parts (is_interval R s) (F s.lower && F s.upper) h).1
+  fine_bounds s h = grind arith
 
   one_fine : (s : Span V) → is_interval R s ≡ true → F s.lower ≡ true → F s.upper ≡ true → list_all is_fine (s ∷ []) ≡ true
-  one_fine s h k l = rw (h, k, l) refl
+  one_fine s h k l = grind arith
 
   fine-meet : (s t : Span V) → is_fine s ≡ true → is_fine t ≡ true → list_all is_fine (option_to_list (meet R s t)) ≡ true
   fine-meet s t h k =
@@ -32,12 +32,10 @@ module _ {V : Type 0} {R : V → V → Ordering} (o : IsTotalOrder R) (F : Bound
 
   -- what is left below t begins below t's lower cut, which its upper bound makes again; and so above t
   fine-left_below : (s t : Span V) → F s.lower ≡ true → F t.lower ≡ true → list_all is_fine (option_to_list (left_below R s t)) ≡ true
-  fine-left_below s t h k = cond_both _ (Some _) None (λ m. list_all is_fine (option_to_list m) ≡ true)
-      (λ i. one_fine _ (ap (λ c. is_lt (cut_cmp R (lower_cut s.lower) c)) (turned_lower o t.lower _ i) ∙ i) h k) (λ _. refl)
+  fine-left_below s t h k = grind (arith, turned_lower)
 
   fine-left_above : (s t : Span V) → F t.upper ≡ true → F s.upper ≡ true → list_all is_fine (option_to_list (left_above R s t)) ≡ true
-  fine-left_above s t h k = cond_both _ (Some _) None (λ m. list_all is_fine (option_to_list m) ≡ true)
-      (λ i. one_fine _ (ap (λ c. is_lt (cut_cmp R c (upper_cut s.upper))) (turned_upper o t.upper _ i) ∙ i) h k) (λ _. refl)
+  fine-left_above s t h k = grind (arith, turned_upper)
 
   fine-remainder : (s t : Span V) → is_fine s ≡ true → is_fine t ≡ true → list_all is_fine (remainder R s t) ≡ true
   fine-remainder s t h k = remainders_by o s t (λ r. list_all is_fine (option_to_list r.0 ++ option_to_list r.1) ≡ true)
@@ -62,7 +60,7 @@ module _ {V : Type 0} {R : V → V → Ordering} (o : IsTotalOrder R) (F : Bound
 -- what two lists of one interval each have in common
 pub meets_of-lone : {V : Type 0} (R : V → V → Ordering) (xs ys : List (Span V)) (s t : Span V) → length xs ≡ 1 → length ys ≡ 1
     → s ≡ get_or xs 0 s → t ≡ get_or ys 0 t → meets_of R xs ys ≡ option_to_list (meet R s t)
-meets_of-lone R xs ys s t e f g h = rw (lone xs s e g, lone ys t f h) (append-nil _ ∙ append-nil _)
+meets_of-lone R xs ys s t e f g h = grind (arith, lone, append-nil)
 
 pub listed_some : {A : Type 0} (m : Option A) → IsTrue (is_some m) → 0 < length (option_to_list m)
 listed_some m e = part_some m m refl e
@@ -71,13 +69,11 @@ pub listed_none : {A : Type 0} (m : Option A) (is : Bool) → is ≡ is_some m �
 listed_none m is e f = grind arith
 
 option_accepts-held : (r : Option (List (Span VersionValue))) (v : VersionValue) → option_accepts r v true ≡ option_list_holds precedence r v
-option_accepts-held None v = refl
-option_accepts-held (Some ss) v = accepts-held ss v
+option_accepts-held r v = grind (arith, accepts-held)
 
 option_accepts-release : (r : Option (List (Span VersionValue))) (v : VersionValue) → is_release v ≡ true
     → option_accepts r v false ≡ option_list_holds precedence r v
-option_accepts-release None v h = refl
-option_accepts-release (Some ss) v h = accepts-release ss v h
+option_accepts-release r v h = grind (arith, accepts-release)
 
 -- what holds of a list holds of a result that is this list
 pub of_result : {E : Type 0} (list : Option (List (Span VersionValue))) (r : Result (Option (List (Span VersionValue))) E)
@@ -139,7 +135,7 @@ module _ {V : Type 0} (R : V → V → Ordering) (value : V → VersionValue)
 
   -- where the lists have an intersection or a difference, the ranges do
   pub meets_of-some : 0 < length (meets_of R xs ys) → IsTrue (is_some (intersection a b))
-  meets_of-some e = any_some _ (subst (λ (l : List (Span VersionValue)). 0 < length l) meets_of-is (rw (length-map (meets_of R xs ys)) e))
+  meets_of-some e = grind (arith, any_some, meets_of-is, length-map)
 
   pub minus-some : (0 < length (minus R xs ys)) ⊎ (length ys ≢ 1) → IsTrue (is_some (difference a b)) ⊎ (1 < length b)
   minus-some (inl e) = inl (any_some _ (subst (λ (l : List (Span VersionValue)). 0 < length l) minus-is (rw (length-map (minus R xs ys)) e)))

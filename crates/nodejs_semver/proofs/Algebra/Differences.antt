@@ -5,10 +5,10 @@ use Rattle.nodejs_semver.proofs.Common.{below_lesser, below_upto, between, betwe
 use Rattle.nodejs_semver.proofs.Common.{false, flat_flat, flat_map, flat_map-append, flat_same, fold-append, get_or, get_or-drop}
 use Rattle.nodejs_semver.proofs.Common.{greater_below, greater_lower, gt_lt, if◌then◌else◌, inl, inr, irreflexive, is_interval, is_lt}
 use Rattle.nodejs_semver.proofs.Common.{is_some, is_some-interval, left_above, left_below, length, length-drop, lesser_upper, list_all, lower_cut, lt, lt_trans}
-use Rattle.nodejs_semver.proofs.Common.{minus, not, not-false, not-true, not_above, not_below, not_if, one_way, option_to_list, refl, remainder}
+use Rattle.nodejs_semver.proofs.Common.{minus, not, not_above, not_below, not_if, one_way, option_to_list, refl, remainder}
 use Rattle.nodejs_semver.proofs.Common.{remainders_by, subst, suc, sym, take, take_all, true, turned_lower, turned_upper, upper_cut}
 use Rattle.nodejs_semver.proofs.Common.{upto_below, zero, ℕ, ◌&&◌, ◌++◌, ◌+◌, ◌<◌, ◌∙◌, ◌∷◌, ◌≡◌, ◌≤◌}
-use Rattle.nodejs_semver.proofs.Common.{Err, IfOk, IsTrue, Ok, Result}
+use Rattle.nodejs_semver.proofs.Common.{Err, IfOk, IsTrue, Result}
 use Rattle.std.specs.{List.Sorted.{IsPartitionedBy, IsPartitionPoint}, Result.{IsOkAnd, MatchResult, OnErr}}
 use Rattle.nodejs_semver.proofs.Dividing.RunLemmas.{greater_assoc, lesser_assoc}
 use Rattle.nodejs_semver.specs.Internal.Along.{IsAlong}
@@ -62,24 +62,21 @@ module _ {V : Type 0} {R : V → V → Ordering} (o : IsTotalOrder R) where
 
   left_lower : (s t : Span V) → lt o (lower_cut s.lower) (lower_cut t.lower) ≡ true
       → lesser_upper R s.upper t.lower ≡ (if lt o (lower_cut t.lower) (upper_cut s.upper) then t.lower else s.upper)
-  left_lower s t h = ap (λ i. if i then t.lower else s.upper)
-      (gt_lt o (upper_cut s.upper) (upper_cut t.lower) ∙ ap (λ c. lt o c (upper_cut s.upper)) (turned_lower o t.lower _ h))
+  left_lower s t h = grind (arith, gt_lt, turned_lower)
 
   left_upper : (s t : Span V) → lt o (upper_cut t.upper) (upper_cut s.upper) ≡ true
       → greater_lower R t.upper s.lower ≡ (if lt o (lower_cut s.lower) (upper_cut t.upper) then t.upper else s.lower)
-  left_upper s t h = ap (λ i. if i then t.upper else s.lower)
-      (gt_lt o (lower_cut t.upper) (lower_cut s.lower) ∙ ap (λ c. lt o (lower_cut s.lower) c) (turned_upper o t.upper _ h))
+  left_upper s t h = grind (arith, gt_lt, turned_upper)
 
   below_met : (s t : Span V) → lt o (lower_cut t.lower) (upper_cut s.upper) ≡ true → option_to_list (left_below R s t) ≡ below s t.lower
-  below_met s t h = elim (cases_Bool (lt o (lower_cut s.lower) (lower_cut t.lower))) [ inl i ↦ rw (i, left_lower s t i, h) refl | inr f ↦ rw f refl ]
+  below_met s t h = grind (arith, left_lower)
 
   above_met : (s t : Span V) → lt o (lower_cut s.lower) (upper_cut t.upper) ≡ true → option_to_list (left_above R s t) ≡ above s t.upper
-  above_met s t h = elim (cases_Bool (lt o (upper_cut t.upper) (upper_cut s.upper))) [ inl i ↦ rw (i, left_upper s t i, h) refl | inr f ↦ rw f refl ]
+  above_met s t h = grind (arith, left_upper)
 
   remainder_is : (s t : Span V) → is_interval R s ≡ true → is_interval R t ≡ true → remainder R s t ≡ below s t.lower ++ above s t.upper
   remainder_is s t h k = remainders_by o s t (λ r. (option_to_list r.0 ++ option_to_list r.1) ≡ below s t.lower ++ above s t.upper)
-      (λ e. let m = between_parts o s.lower t.lower s.upper t.upper e in
-      ap₂ (λ l k. l ++ k) (below_met s t m.1.0) (above_met s t m.0.1))
+      (λ e. grind (arith, between_parts, below_met, above_met))
       (λ e. elim (cases_Bool (lt o (lower_cut t.lower) (upper_cut s.upper))) [
         | inr f ↦
             let i = below_upto o (lower_cut s.lower) (upper_cut s.upper) (lower_cut t.lower) h f in
@@ -93,8 +90,7 @@ module _ {V : Type 0} {R : V → V → Ordering} (o : IsTotalOrder R) where
   -- what is clipped from a piece of c is a piece of what is clipped from c
   clip_piece : (s c y z : Span V) (i j : Bool) → z ≡ clipped s y → (is_interval R (clipped s c) && i) ≡ (j && is_interval R (clipped s y))
       → (if is_interval R (clipped s c) then pick i z else []) ≡ clips (pick j y) s
-  clip_piece s c y z i j e f = nested _ i z ∙ ap₂ (λ b x. pick b x) f e ∙ sym (nested j _ (clipped s y))
-      ∙ sym (flat_pick (λ c. option_to_list (clip R s c)) j y)
+  clip_piece s c y z i j e f = grind (arith, nested, flat_pick)
 
   clip_below : (s c : Span V) (b : Bound V) → (if is_interval R (clipped s c) then below (clipped s c) b else [])
       ≡ clips (below c b) s
@@ -162,26 +158,17 @@ module _ {V : Type 0} {R : V → V → Ordering} (o : IsTotalOrder R) where
 
   all_whole : (ss : List (Span V)) → list_all (is_interval R) ss ≡ true → flat_map (clips (whole ∷ [])) ss ≡ ss
   all_whole [] h = refl
-  all_whole (s ∷ ss) h =
-      let (i, j) = and_parts (is_interval R s) (list_all (is_interval R) ss) h in ap₂ (λ l k. l ++ k) (clips_whole s i) (all_whole ss j)
+  all_whole (s ∷ ss) h = grind (arith, clips_whole, all_whole ss)
 
   -- what is left of the line stands in order along it
   along_lower : (a b : Cut V) (cs : List (Span V)) → lt o b a ≡ false → IsAlong R b cs → IsAlong R a cs
   along_lower a b [] h k = tt
-  along_lower a b (c ∷ cs) h k = (not_if _ _ (λ e. below_upto o (lower_cut c.lower) a b e h) k.0, k.1)
+  along_lower a b (c ∷ cs) h k = grind (arith, below_upto)
 
   along_above : (b : Cut V) (c t : Span V) (cs : List (Span V)) → is_interval R c ≡ true → IsAlong R (upper_cut c.upper) cs
       → lt o (upper_cut c.upper) b ≡ false → (lt o (upper_cut t.upper) b && lt o (lower_cut c.lower) b) ≡ false
       → IsAlong R b (above c t.upper ++ cs)
-  along_above b c t cs h k p q = elim (cases_Bool (lt o (upper_cut t.upper) (upper_cut c.upper))) [
-    | inr i ↦ rw i (along_lower b (upper_cut c.upper) cs p k)
-    | inl i ↦
-        let turned = turned_upper o t.upper _ i in
-        rw i (
-          greater_below o t.upper c.lower b ∙ rw turned q,
-          (greater_below o t.upper c.lower (upper_cut c.upper) ∙ rw (turned, i, h) refl, k),
-        )
-  ]
+  along_above b c t cs h k p q = grind (arith, along_lower, turned_upper, greater_below)
 
   along_remainder : (a : Cut V) (c t : Span V) (cs : List (Span V)) → IsAlong R a (c ∷ cs) → IsAlong R a (remainder R c t ++ cs)
   along_remainder a c t cs h = elim (cases_Bool (is_interval R t)) [
@@ -212,8 +199,7 @@ module _ {V : Type 0} {R : V → V → Ordering} (o : IsTotalOrder R) where
 
   along_remainders : (a : Cut V) (cs : List (Span V)) (t : Span V) → IsAlong R a cs → IsAlong R a (flat_map (λ c. remainder R c t) cs)
   along_remainders a [] t h = tt
-  along_remainders a (c ∷ cs) t h = along_remainder a c t (flat_map (λ d. remainder R d t) cs)
-      (h.0, (h.1.0, along_remainders (upper_cut c.upper) cs t h.1.1))
+  along_remainders a (c ∷ cs) t h = grind (arith, along_remainder a c t, along_remainders (upper_cut c.upper) cs t)
 
   along_minus : (a : Cut V) (cs ts : List (Span V)) → IsAlong R a cs → IsAlong R a (minus R cs ts)
   along_minus a cs [] h = h
@@ -221,10 +207,10 @@ module _ {V : Type 0} {R : V → V → Ordering} (o : IsTotalOrder R) where
 
   along_all : (a : Cut V) (cs : List (Span V)) → IsAlong R a cs → list_all (is_interval R) cs ≡ true
   along_all a [] h = refl
-  along_all a (c ∷ cs) h = and_from _ _ h.1.0 (along_all (upper_cut c.upper) cs h.1.1)
+  along_all a (c ∷ cs) h = grind (arith, along_all (upper_cut c.upper) cs)
 
   pub along-gaps : (ts cs : List (Span V)) → cs ≡ minus R (whole ∷ []) ts → IsAlong R Start cs
-  along-gaps ts cs e = subst (IsAlong R Start) (sym e) (along_minus Start (whole ∷ []) ts (refl, (refl, tt)))
+  along-gaps ts cs e = grind (arith, along_minus Start)
 
   -- what is cut from each span by what is left of the whole line
   pub minus-clips : (ss ts cs : List (Span V)) → list_all (is_interval R) ss ≡ true → cs ≡ minus R (whole ∷ []) ts
@@ -244,17 +230,14 @@ module _ {V : Type 0} {R : V → V → Ordering} (o : IsTotalOrder R) where
   ends_past a [] j d h k = absurd (omega arith)
   ends_past a (c ∷ cs) zero d h k = not_below o (lower_cut c.lower) (upper_cut c.upper) a h.1.0 h.0
   ends_past a (c ∷ cs) (suc j) d h k =
-      let n = ends_past (upper_cut c.upper) cs j d h.1.1 (omega arith) in
-      not_if _ _ (λ m. lt_trans o (lower_cut c.lower) (upper_cut c.upper) a h.1.0
-      (upto_below o (upper_cut c.upper) (upper_cut (get_or cs j d).upper) a n m)) h.0
+      grind (arith, ends_past (upper_cut c.upper) cs j d h.1.1, lt_trans, upto_below)
 
   ends_rise : (a : Cut V) (cs : List (Span V)) (i j : ℕ) (d : Span V) → IsAlong R a cs → i ≤ j → j < length cs
       → lt o (upper_cut (get_or cs j d).upper) (upper_cut (get_or cs i d).upper) ≡ false
-  ends_rise a [] i j d h l k = absurd (omega arith)
   ends_rise a (c ∷ cs) zero zero d h l k = irreflexive o (upper_cut c.upper)
   ends_rise a (c ∷ cs) zero (suc j) d h l k = ends_past (upper_cut c.upper) cs j d h.1.1 (omega arith)
-  ends_rise a (c ∷ cs) (suc i) zero d h l k = absurd (omega arith)
   ends_rise a (c ∷ cs) (suc i) (suc j) d h l k = ends_rise (upper_cut c.upper) cs i j d h.1.1 (omega arith) (omega arith)
+  ends_rise a cs i j d h l k = absurd (omega arith)
 
   -- the piece ends not above where s begins
   abbrev pub falls_short : Span V → Span V → Bool
@@ -278,17 +261,14 @@ module _ {V : Type 0} {R : V → V → Ordering} (o : IsTotalOrder R) where
   skipped s cs zero h k = refl
   skipped s [] (suc r) h k = absurd (omega arith)
   skipped s (c ∷ cs) (suc r) h k =
-      let more = skipped s cs r (λ i d p q. h (suc i) d (omega arith) (omega arith)) (omega arith) in
-      let short = h 0 c (omega arith) (omega arith) in
-      ap (λ l. l ++ clips cs s) (short_clip s c (not-true _ short)) ∙ more
+      let more = skipped s cs r (λ i d p q. h (suc i) d (omega arith) (omega arith)) in
+      grind (arith, more, h 0 c, short_clip)
 
   -- the pieces behind
   none_past : (s : Span V) (b : Cut V) (cs : List (Span V)) → IsAlong R b cs → lt o b (upper_cut s.upper) ≡ false → clips cs s ≡ []
   none_past s b [] h k = refl
   none_past s b (c ∷ cs) h k =
-      let f = not_if (lt o (lower_cut c.lower) (upper_cut s.upper)) _ (upto_below o b (lower_cut c.lower) (upper_cut s.upper) h.0) k in
-      ap (λ l. l ++ clips cs s) (past_clip s c f) ∙ none_past s (upper_cut c.upper) cs h.1.1
-      (not_below o (lower_cut c.lower) (upper_cut c.upper) (upper_cut s.upper) h.1.0 f)
+      grind (arith, upto_below, past_clip, not_below, none_past s (upper_cut c.upper) cs)
 
   none_of : (s : Span V) (cs : List (Span V)) → lt o (lower_cut s.lower) (upper_cut s.upper) ≡ false → clips cs s ≡ []
   none_of s [] h = refl
@@ -313,22 +293,22 @@ module _ {V : Type 0} {R : V → V → Ordering} (o : IsTotalOrder R) where
   pub along_drop : (a : Cut V) (cs : List (Span V)) (r : ℕ) → IsAlong R a cs → IsAlong R a (drop r cs)
   along_drop a cs zero h = h
   along_drop a [] (suc r) h = tt
-  along_drop a (c ∷ cs) (suc r) h = along_lower a (upper_cut c.upper) (drop r cs)
-      (not_below o (lower_cut c.lower) (upper_cut c.upper) a h.1.0 h.0) (along_drop (upper_cut c.upper) cs r h.1.1)
+  along_drop a (c ∷ cs) (suc r) h =
+      grind (arith, along_lower, not_below, along_drop (upper_cut c.upper) cs r)
 
   -- the pieces from the first that does not fall short of s up to one that is past it, or to the last
   module _ (s : Span V) (cs : List (Span V)) (r : ℕ) (b : r ≤ length cs)
       (p : IsPartitionPoint (λ c. falls_short s c ≡ true) (λ c. falls_short s c ≡ false) cs r) where
     pub clips-to_end : (near : List (Span V)) (i : ℕ) → near ≡ drop r cs → length near ≤ i → clips (take i near) s ≡ clips cs s
-    clips-to_end near i e k = ap (λ l. clips l s) (take_all i near k) ∙ ap (λ l. clips l s) e ∙ sym (skipped s cs r p.0 b)
+    clips-to_end near i e k = grind (arith, take_all, skipped)
 
     to_none : (i : ℕ) (d : Span V) → IsAlong R Start cs → i < length (drop r cs)
         → is_some (clip R s (get_or (drop r cs) i d)) ≡ false → clips (take i (drop r cs)) s ≡ clips cs s
     to_none i d h k n =
-        let at : get_or (drop r cs) i d ≡ get_or cs (r + i) d = get_or-drop r cs i d in
-        let short = p.1 (r + i) d (omega arith) (omega (arith, length-drop r cs)) in
-        stop_at s Start (drop r cs) i d (along_drop Start cs r h) k
-        (ap (λ (q : Span V). lt o (lower_cut s.lower) (upper_cut q.upper)) at ∙ not-false _ short) n ∙ sym (skipped s cs r p.0 b)
+        let at = get_or-drop r cs i d in
+        let short = p.1 (r + i) d in
+        let stopped = stop_at s Start (drop r cs) i d in
+        grind (arith, at, short, stopped, length-drop, along_drop, skipped)
 
     pub clips-to_none : (near : List (Span V)) (i : ℕ) (d : Span V) (part : Option (Span V)) → near ≡ drop r cs → IsAlong R Start cs → i < length near
         → d ≡ get_or near i d → part ≡ clip R s d → is_some part ≡ false → clips (take i near) s ≡ clips cs s
@@ -337,17 +317,13 @@ module _ {V : Type 0} {R : V → V → Ordering} (o : IsTotalOrder R) where
 -- a part that was put at the end is the one that was to be made; and where that failed, there was one to make
 pub pushed : {A E : Type 0} (part : Result (Option A) E) (made : Option A) (old new : List A) → IfOk part (λ p. p ≡ made)
     → IsOkAnd part (λ p. new ≡ old ++ option_to_list p) → new ≡ old ++ option_to_list made
-pushed (Ok p) made old new is k = rw (sym is) k
-pushed (Err e) made old new is k = absurd k
+pushed part made old new is k = grind arith
 
 pub unpushed : {A E : Type 0} (part : Result (Option A) E) (made : Option A) → IfOk part (λ p. p ≡ made)
     → OnErr part (IsTrue (is_some made)) → IfOk part (λ p. IsTrue (is_some p)) → IsTrue (is_some made)
-unpushed (Ok p) made is h k = rw (sym is) k
-unpushed (Err e) made is h k = h
+unpushed part made is h k = grind arith
 
 -- what `map(Some)` returns
 pub some-map : {A E : Type 0} (r : Result A E) (part : Result (Option A) E) (x : A) → IfOk r (λ y. y ≡ x)
     → MatchResult r (λ y. IsOkAnd part (λ p. p ≡ Some y)) (λ e. part ≡ Err e) → IfOk part (λ p. p ≡ Some x)
-some-map (Ok y) (Ok p) x is k = rw (sym is) k
-some-map (Ok y) (Err e) x is k = absurd k
-some-map (Err e) part x is k = rw k tt
+some-map r part x is k = grind arith

@@ -1,5 +1,5 @@
 -- Of spans that stand along the line, those that meet another one stand together.
-use Rattle.nodejs_semver.proofs.Common.{AllWithin, Bool, Cut, IsTotalOrder, List, Ordering, Span, Start, [], and_parts, all_weaker, any_under, between_from, gt_lt, is_le, list_all-append, tells, irreflexive, list_any-append, flat_map, flat_map-append, none_of, not_above, or-false, or_parts, option_to_list, subst, Beside, End, ap, ap₂, append-nil}
+use Rattle.nodejs_semver.proofs.Common.{AllWithin, Bool, Cut, IsTotalOrder, List, Ordering, Span, Start, [], and_parts, all_weaker, any_under, between_from, gt_lt, is_le, list_all-append, tells, irreflexive, list_any-append, flat_map, flat_map-append, none_of, not_above, or_parts, option_to_list, subst, ap, ap₂, append-nil}
 use Rattle.nodejs_semver.proofs.Common.{arith, below_upto, between, cut_cmp, drop, false, get_or, is_interval, is_lt, is_some, is_some-interval, length}
 use Rattle.nodejs_semver.proofs.Common.{list_all, list_any, lower_cut, lt, meet, not, not-true, not_below, not_if, refl, suc, sym, take, take-append-drop}
 use Rattle.nodejs_semver.proofs.Common.{true, upper_cut, upto_below, zero, ℕ, ◌++◌, ◌+◌, ◌<◌, ◌||◌, ◌∙◌, ◌∷◌, ◌≡◌, ◌≤◌}
@@ -12,16 +12,16 @@ use Rattle.std.specs.List.Sorted.{IsPartitionedBy, IsPartitionPoint}
 none_from : {A : Type 0} (p : A → Bool) (xs : List A) (m : ℕ) → AllWithin (λ x. p x ≡ false) xs m (length xs) → list_any p (drop m xs) ≡ false
 none_from p [] zero h = refl
 none_from p [] (suc m) h = refl
-none_from p (x ∷ xs) zero h = ap₂ (λ a b. a || b) (h 0 x (omega arith) (omega arith))
-    (none_from p xs zero (λ i d a b. h (suc i) d (omega arith) (omega arith)))
+none_from p (x ∷ xs) zero h =
+    grind (arith, h 0 x, none_from p xs zero (λ i d a b. h (suc i) d (omega arith) (omega arith)))
 none_from p (x ∷ xs) (suc m) h = none_from p xs m (λ i d a b. h (suc i) d (omega arith) (omega arith))
 
 none_upto : {A : Type 0} (p : A → Bool) (xs : List A) (m : ℕ) → AllWithin (λ x. p x ≡ false) xs 0 m → list_any p (take m xs) ≡ false
 none_upto p [] zero h = refl
 none_upto p [] (suc m) h = refl
 none_upto p (x ∷ xs) zero h = refl
-none_upto p (x ∷ xs) (suc m) h = ap₂ (λ a b. a || b) (h 0 x (omega arith) (omega arith))
-    (none_upto p xs m (λ i d a b. h (suc i) d (omega arith) (omega arith)))
+none_upto p (x ∷ xs) (suc m) h =
+    grind (arith, h 0 x, none_upto p xs m (λ i d a b. h (suc i) d (omega arith) (omega arith)))
 
 module _ {V : Type 0} {R : V → V → Ordering} (o : IsTotalOrder R) where
   abbrev meets : Span V → Span V → Bool
@@ -29,28 +29,25 @@ module _ {V : Type 0} {R : V → V → Ordering} (o : IsTotalOrder R) where
 
   -- what ends not above where s begins does not meet it, nor what begins not below where it ends
   short_apart : (s t : Span V) → lt o (lower_cut s.lower) (upper_cut t.upper) ≡ false → meets s t ≡ false
-  short_apart s t h = is_some-interval o _ ∙ between o s.lower t.lower s.upper t.upper ∙ rw h (grind arith)
+  short_apart s t h = grind (arith, is_some-interval, between)
 
   past_apart : (s t : Span V) → lt o (lower_cut t.lower) (upper_cut s.upper) ≡ false → meets s t ≡ false
-  past_apart s t h = is_some-interval o _ ∙ between o s.lower t.lower s.upper t.upper ∙ rw h (grind arith)
+  past_apart s t h = grind (arith, is_some-interval, between)
 
   -- the beginnings rise along the line
   begins_past : (a : Cut V) (cs : List (Span V)) (j : ℕ) (d : Span V) → IsAlong R a cs → j < length cs → lt o (lower_cut (get_or cs j d).lower) a ≡ false
   begins_past a [] j d h k = absurd (omega arith)
   begins_past a (c ∷ cs) zero d h k = h.0
   begins_past a (c ∷ cs) (suc j) d h k =
-      let n = begins_past (upper_cut c.upper) cs j d h.1.1 (omega arith) in
-      not_if _ _ (λ m. below_upto o (lower_cut (get_or cs j d).lower) a (upper_cut c.upper) m
-      (not_below o (lower_cut c.lower) (upper_cut c.upper) a h.1.0 h.0)) n
+      grind (arith, begins_past (upper_cut c.upper) cs j d h.1.1, below_upto, not_below)
 
   begins_rise : (a : Cut V) (cs : List (Span V)) (i j : ℕ) (d : Span V) → IsAlong R a cs → i ≤ j → j < length cs
       → lt o (lower_cut (get_or cs j d).lower) (lower_cut (get_or cs i d).lower) ≡ false
-  begins_rise a [] i j d h l k = absurd (omega arith)
   begins_rise a (c ∷ cs) zero zero d h l k = irreflexive o (lower_cut c.lower)
-  begins_rise a (c ∷ cs) zero (suc j) d h l k = not_above o (lower_cut (get_or cs j d).lower) (lower_cut c.lower) (upper_cut c.upper) h.1.0
-      (begins_past (upper_cut c.upper) cs j d h.1.1 (omega arith))
-  begins_rise a (c ∷ cs) (suc i) zero d h l k = absurd (omega arith)
+  begins_rise a (c ∷ cs) zero (suc j) d h l k =
+      grind (arith, not_above, begins_past (upper_cut c.upper) cs j d h.1.1)
   begins_rise a (c ∷ cs) (suc i) (suc j) d h l k = begins_rise (upper_cut c.upper) cs i j d h.1.1 (omega arith) (omega arith)
+  begins_rise a cs i j d h l k = absurd (omega arith)
 
   pub begins_parted : (s : Span V) (a : Cut V) (cs : List (Span V)) → IsAlong R a cs
       → IsPartitionedBy (λ c. is_lt (cut_cmp R (lower_cut c.lower) (upper_cut s.upper))) cs
@@ -58,9 +55,7 @@ module _ {V : Type 0} {R : V → V → Ordering} (o : IsTotalOrder R) where
       upto_below o (lower_cut (get_or cs i d).lower) (lower_cut (get_or cs j d).lower) (upper_cut s.upper) (begins_rise a cs i j d h l k) e
 
   none_below : (a : Cut V) → lt o a Start ≡ false
-  none_below Start = refl
-  none_below End = refl
-  none_below (Beside v s) = refl
+  none_below a = grind arith
 
   along_at : (a : Cut V) (cs : List (Span V)) → list_all (is_interval R) cs ≡ true
       → ((d : Span V) → 0 < length cs → lt o (lower_cut (get_or cs 0 d).lower) a ≡ false)
@@ -68,8 +63,8 @@ module _ {V : Type 0} {R : V → V → Ordering} (o : IsTotalOrder R) where
       → IsAlong R a cs
   along_at a [] h f k = tt
   along_at a (c ∷ cs) h f k =
-      let (one, others) = and_parts (is_interval R c) (list_all (is_interval R) cs) h in
-      (f c (omega arith), (one, along_at (upper_cut c.upper) cs others (λ d l. k 0 d (omega arith)) (λ i d l. k (suc i) d (omega arith))))
+      let next = along_at (upper_cut c.upper) cs _ (λ d l. k 0 d (omega arith)) (λ i d l. k (suc i) d (omega arith)) in
+      grind (arith, f c, next)
 
   -- neighbours of which none reaches the next stand along the line
   pub along_from : (cs : List (Span V)) → list_all (is_interval R) cs ≡ true
@@ -95,23 +90,16 @@ module _ {V : Type 0} {R : V → V → Ordering} (o : IsTotalOrder R) where
   }
 
 implied : (p q : Bool) → (p ≡ true → q ≡ true) → (not p || q) ≡ true
-implied true q h = h refl
-implied false q h = refl
+implied p q h = grind arith
 
 upto_not : {V : Type 0} {R : V → V → Ordering} (o : IsTotalOrder R) (a b : Cut V) → is_le (cut_cmp R a b) ≡ true → lt o b a ≡ false
-upto_not {R = R} o a b h = sym (gt_lt o a b) ∙ not-true _ (sym (tells (cut_cmp R a b)).0 ∙ h)
+upto_not o a b h = grind (arith, gt_lt, tells)
 
 -- what one interval covers it meets
 pub covered_meets : {V : Type 0} {R : V → V → Ordering} (o : IsTotalOrder R) (s t : Span V) → is_interval R t ≡ true → covers R s t ≡ true
     → is_some (meet R s t) ≡ true
-covered_meets {R = R} o s t i c =
-    let (lower, upper) = and_parts (is_le (cut_cmp R (lower_cut s.lower) (lower_cut t.lower))) _ c in
-    let low : lt o (lower_cut t.lower) (lower_cut s.lower) ≡ false = upto_not o (lower_cut s.lower) (lower_cut t.lower) lower in
-    let up : lt o (upper_cut s.upper) (upper_cut t.upper) ≡ false = upto_not o (upper_cut t.upper) (upper_cut s.upper) upper in
-    let l : lt o (lower_cut s.lower) (upper_cut t.upper) ≡ true = upto_below o (lower_cut s.lower) (lower_cut t.lower) (upper_cut t.upper) low i in
-    let u : lt o (lower_cut t.lower) (upper_cut s.upper) ≡ true = below_upto o (lower_cut t.lower) (upper_cut t.upper) (upper_cut s.upper) i up in
-    is_some-interval o _ ∙ between_from o s.lower t.lower s.upper t.upper
-    (below_upto o (lower_cut s.lower) (upper_cut t.upper) (upper_cut s.upper) l up) l u i
+covered_meets o s t i c =
+    grind (arith, upto_not, upto_below, below_upto, is_some-interval, between_from)
 
 -- what is asked of each of the spans that meet s, or made of them, is so of the near ones alone
 module _ {V : Type 0} (R : V → V → Ordering) (s : Span V) where
@@ -130,16 +118,9 @@ module _ {V : Type 0} (R : V → V → Ordering) (s : Span V) where
   pub any_near : (ts near : List (Span V)) (p : Span V → Bool) → ((t : Span V) → is_interval R t ≡ true → p t ≡ true → is_some (meet R s t) ≡ true)
       → list_all (is_interval R) ts ≡ true → IsNear R s ts near → list_any p ts ≡ list_any p near
   any_near ts near p h k n =
-      let (front, others) = and_parts _ _ (sym (ap (list_all (is_interval R)) n.is ∙ list_all-append (is_interval R) n.front (near ++ n.back)) ∙ k) in
-      let back = (and_parts _ _ (sym (list_all-append (is_interval R) near n.back) ∙ others)).1 in
-      ap (list_any p) n.is ∙ list_any-append p n.front (near ++ n.back)
-      ∙ ap₂ (λ a b. a || b) (none_any p h n.front front n.before)
-      (list_any-append p near n.back ∙ ap (λ b. list_any p near || b) (none_any p h n.back back n.behind) ∙ or-false (list_any p near))
+      grind (arith, n.is, list_any-append, list_all-append, none_any, n.before, n.behind)
 
   pub flat_near : (ts near : List (Span V)) → IsNear R s ts near
       → flat_map (λ t. option_to_list (meet R s t)) ts ≡ flat_map (λ t. option_to_list (meet R s t)) near
   flat_near ts near n =
-      let f : Span V → List (Span V) = λ t. option_to_list (meet R s t) in
-      ap (flat_map f) n.is ∙ flat_map-append f n.front (near ++ n.back)
-      ∙ ap₂ (λ a b. a ++ b) (none_flat n.front n.before) (flat_map-append f near n.back ∙ ap (λ l. flat_map f near ++ l) (none_flat n.back n.behind)
-      ∙ append-nil (flat_map f near))
+      grind (arith, flat_map-append, none_flat, n.is, n.before, n.behind, append-nil)

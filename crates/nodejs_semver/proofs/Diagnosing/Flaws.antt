@@ -66,7 +66,7 @@ no-dot-yet limit Starts front k p f =
 great-begins : (limit : ℕ) (d rest : List ℕ) → list_all is_ascii_digit d ≡ true → limit < digits_value 10 d
     → begins is_ascii_digit (d ++ rest) ≡ true
 great-begins limit [] rest each above = absurd (omega arith)
-great-begins limit (c ∷ d) rest each above = (and_parts (is_ascii_digit c) (list_all is_ascii_digit d) each).0
+great-begins limit (c ∷ d) rest each above = grind arith
 
 -- a whole run of digits is no less than digits at its front
 grown : (v : ℕ) (d e x y : List ℕ) → list_all is_ascii_digit d ≡ true → begins is_ascii_digit y ≡ false → d ++ x ≡ e ++ y

@@ -8,8 +8,8 @@ use Rattle.nodejs_semver.proofs.{Common.{words_within, zero, ℕ, ◌&&◌, ◌+
 use Rattle.nodejs_semver.{proofs.Reading.{PartialLaw.word-shorter, WordLaw.{word-utf8, words_are}}, specs.Diagnosis.IgnoredWords.AreAllIgnored}
 use Rattle.nodejs_semver.specs.Diagnosis.IgnoredWords.{AreIgnored, AreIgnoredOf, IsWhollyBounded, if_ignored, ignored_as, next_piece, next_word}
 use Rattle.nodejs_semver.specs.{Diagnosis.IgnoredWords.{no_piece, no_word}, Internal.Ignored.{all_ignored, ignored_behind, ignored_of}}
-use Rattle.nodejs_semver.specs.Internal.{Ignored.{ignored_within, kind_at, left_list, option_list, part_end, read_at}, Words.{careted, compared}}
-use Rattle.nodejs_semver.specs.{Internal.Words.{signed_word, tilded, unsigned}, Text.Meaning.HasWords}
+use Rattle.nodejs_semver.specs.Internal.Ignored.{ignored_within, kind_at, left_list, option_list, part_end, read_at}
+use Rattle.nodejs_semver.specs.{Internal.Words.signed_word, Text.Meaning.HasWords}
 use Rattle.nodejs_semver.specs.declared.diagnosis.ranges.{IgnoredKind.{IgnoredKind, TheVariants.{Malformed, WithoutBounds}}, IgnoredWord.IgnoredWord}
 use Rattle.{nodejs_semver.specs.declared.diagnosis.unread.Unread.Unread, semver_core.proofs.Dividing.BarLemmas.{bars_room, cut_bars-front}}
 use Rattle.semver_core.proofs.{Dividing.BarsDivide.{bars_divide, bars_once, pieces-utf8}, Reading.Boundaries.{skips-is, skips-utf8, spaces-gone}}
@@ -35,17 +35,10 @@ unless o = if is_some o then None else Some WithoutBounds
 pub read-formed : (limit : ℕ) (text rest : List ℕ) (w : Word) (o : Option (Span VersionValue)) (r : Result (Span VersionValue) IgnoredKind)
     → ignored_as limit w ≡ unless (table limit w) → word_at limit text ≡ (w, rest) → o ≡ table limit w → r ≡ ok_or o WithoutBounds
     → ◌≡◌ {A = Read} ((result_ok r, result_err r), rest) (read_at limit text)
-read-formed limit text rest w o r kind e h k = rw (e, kind, ← h, k) (go o)
-  where
-    go : (o : Option (Span VersionValue)) → ◌≡◌ {A = Read} ((result_ok (ok_or o WithoutBounds), result_err (ok_or o WithoutBounds)), rest) ((o, unless o), rest)
-    go None = refl
-    go (Some s) = refl
+read-formed limit text rest w o r kind e h k = rw (e, kind, ← h, k) (grind arith)
 
 pub signed-formed : (limit : ℕ) (s : Sign) (p : Partial) → ignored_as limit (signed_word s p) ≡ unless (table limit (signed_word s p))
-signed-formed limit unsigned p = refl
-signed-formed limit (compared c) p = refl
-signed-formed limit (tilded greater) p = refl
-signed-formed limit careted p = refl
+signed-formed limit s p = grind arith
 
 -- ---- the words of a part
 

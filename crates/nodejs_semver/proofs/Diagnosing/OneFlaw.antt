@@ -57,9 +57,7 @@ number-is : (limit : ℕ) (text : List ℕ) (at end : ℕ) → at ≤ length tex
 number-is limit text at end inside s =
     let p = s.piece in
     let found = number_complete limit text at s.n p.piece (drop end text) p.divided p.is in
-    let place : at + length p.piece ≡ end =
-    omega (arith, s.inside, ap length p.divided, length-append {A = ℕ}, length-drop {A = ℕ}) in
-    rw place at found.0
+    grind (arith, found, ap length p.divided, length-append, length-drop)
 
 -- three of them
 pub triple_found : (limit : ℕ) (text : List ℕ) (at a b end : ℕ) → at ≤ length text → IsNumberAt limit text at a
@@ -139,9 +137,9 @@ mark-alike = alike mark_len (λ b x y. refl)
 -- two texts that are equal end alike
 last-is : (xs ys : List ℕ) (x y : ℕ) → xs ++ x ∷ [] ≡ ys ++ y ∷ [] → x ≡ y
 last-is [] [] x y e = cc
-last-is [] (b ∷ ys) x y e = absurd (omega (arith, ap length e, length-append ys (y ∷ [])))
-last-is (a ∷ xs) [] x y e = absurd (omega (arith, ap length e, length-append xs (x ∷ [])))
-last-is (a ∷ xs) (b ∷ ys) x y e = last-is xs ys x y (ap (λ (t : List ℕ). drop 1 t) e)
+last-is [] (b ∷ ys) x y e = grind (arith, length-append ys (y ∷ []))
+last-is (a ∷ xs) [] x y e = grind (arith, length-append xs (x ∷ []))
+last-is (a ∷ xs) (b ∷ ys) x y e = grind (arith, last-is xs ys x y)
 
 abbrev is_dark : ℕ → Bool
 is_dark b = not (is_ascii_digit b)
@@ -296,8 +294,8 @@ next_place limit Starts front d n k p number = record {
 -- ---- a version text is UTF-8, and so are the bytes before an ASCII character of it
 
 ascii-then : (c : ℕ) (text : List ℕ) → c < 128 → IsUtf8 text → IsUtf8 (c ∷ text)
-ascii-then c text low u = IsUtf8-append (c ∷ []) text
-    (subst (λ (t : List ℕ). IsUtf8 t) (encode_ascii c low) (IsUtf8-encode c (low_scalar c (omega (arith, low))))) u
+ascii-then c text low u =
+    grind (arith, IsUtf8-append (c ∷ []) text, encode_ascii c low, IsUtf8-encode c, low_scalar c)
 
 solid-utf8 : (text : List ℕ) → list_all is_solid text ≡ true → IsUtf8 text
 solid-utf8 [] h = IsUtf8-nil
@@ -435,9 +433,7 @@ great-goes_on limit text at x = (omega arith, x.right 48 refl)
 
 same-expected : (limit : ℕ) (text : List ℕ) (what other : Expected) (at : ℕ) → IsExpectedAt limit text what at
     → IsExpectedAt limit text other at → what ≡ other
-same-expected limit text Digit Dot at x y = cc (x.dot (y.right 46 refl))
-same-expected limit text Dot Digit at x y = cc (y.dot (x.right 46 refl))
-same-expected limit text what other at x y = refl
+same-expected limit text what other at x y = grind (arith, x.dot, y.dot, x.right 46, y.right 46)
 
 -- the first is behind the second
 expected-before : (limit : ℕ) (text : List ℕ) (what : Expected) (at next d : ℕ) → IsExpectedAt limit text what at
@@ -478,12 +474,11 @@ one-expected limit text what other a b x y =
     let less = λ (lt : a < b). expected-before limit text what a b (sample other) x lt y.inside (expected-goes_on limit text other b y) in
     let more = λ (lt : b < a). expected-before limit text other b a (sample what) y lt x.inside (expected-goes_on limit text what a x) in
     let same : a ≡ b = omega (arith, less, more) in
-    ap (λ (n : ℕ). Flaw.Expected what n) same
-    ∙ ap (λ (w : Expected). Flaw.Expected w b)
-    (same-expected limit text what other b (subst (λ (n : ℕ). IsExpectedAt limit text what n) same x) y)
+    grind (arith, same, same-expected limit text what other b)
 
 one-great : (limit : ℕ) (text : List ℕ) (a b : ℕ) → IsGreatAt limit text a → IsGreatAt limit text b → a ≡ b
-one-great limit text a b x y = omega (arith, great-not-before limit text a b x y, great-not-before limit text b a y x)
+one-great limit text a b x y =
+    grind (arith, great-not-before limit text a b, great-not-before limit text b a)
 
 -- what follows a version at the front of a text is one text
 one-rest : (limit : ℕ) (text : List ℕ) (v w : VersionValue) (r : Reads limit text v) (s : Reads limit text w) → r.rest ≡ s.rest

@@ -4,8 +4,8 @@ use Rattle.nodejs_semver.proofs.Common.{common_steps, denotes, false, filter, fi
 use Rattle.nodejs_semver.proofs.Common.{middle_is_trim, more_pieces, nat_tests, one_piece, part_denotes, precedence, refl, run_items, sym, table}
 use Rattle.nodejs_semver.proofs.{Common.{trim, true, words, ℕ, ◌++◌, ◌↔◌, ◌∙◌, ◌∷◌, ◌≡◌}, Dividing.MeaningLaw.{blank-empty, empty-blank, one_meaning}}
 use Rattle.nodejs_semver.{proofs.Dividing.MeaningLaw.words-law, specs.Diagnosis.IgnoredWords.{AreAlike, IsWhollyIgnored, ignored_as}}
-use Rattle.nodejs_semver.specs.Text.Meaning.{AreAllIntervals, AreWords, HasRuns, HasWords, all_intervals, blank_piece, every_version, next_piece}
-use Rattle.{nodejs_semver.specs.Text.Meaning.{next_word, no_piece, no_word}, semver_core.proofs.Dividing.BarsDivide.{bars_once, pieces-utf8}}
+use Rattle.nodejs_semver.specs.Text.Meaning.{AreAllIntervals, AreWords, HasRuns, HasWords, all_intervals, blank_piece, next_piece}
+use Rattle.{nodejs_semver.specs.Text.Meaning.no_piece, semver_core.proofs.Dividing.BarsDivide.{bars_once, pieces-utf8}}
 use Rattle.std.{proofs.lemmas.Bool.false_from_ne_true, specs.{List.AllZip, Prelude.is_none}}
 
 -- two pieces have the same words but for ignored ones, and words both or neither; a piece has words, and all are ignored
@@ -45,8 +45,7 @@ all-ignored limit (w ∷ ws) h = grind (arith, ignored-is limit w, all-ignored l
 
 -- a part has words unless it is empty
 has-words : (limit : ℕ) (part : List ℕ) (ws : List Word) → AreWords limit part ws → is_empty part ≡ is_empty ws
-has-words limit part ws no_word = refl
-has-words limit part ws (next_word b text behind next word others is skipped more) = refl
+has-words limit part ws h = grind arith
 
 piece-words : (limit : ℕ) (piece : List ℕ) (ws : List Word) → HasWords limit piece ws → is_empty (trim piece) ≡ is_empty ws
 piece-words limit piece ws h = grind (arith, nat_tests, middle_is_trim piece h.0 h.1, has-words limit h.0 ws h.2)
@@ -70,7 +69,7 @@ all-alike : (limit : ℕ) (ps qs : List (List ℕ)) → AllByRecursion IsUtf8 ps
     × (flat_map (part_denotes limit) (map trim ps) ≡ flat_map (part_denotes limit) (map trim qs))
 all-alike limit [] [] u v h = (refl, refl)
 all-alike limit (p ∷ ps) (q ∷ qs) u v h =
-    grind (arith, nat_tests, piece-alike limit p q u.0 v.0 h.0, empty-alike limit p q h.0, all-alike limit ps qs u.1 v.1 h.1)
+    grind (arith, piece-alike limit p q, empty-alike limit p q, all-alike limit ps qs)
 all-alike limit ps qs u v h = absurd h
 
 denotes-alike : (limit : ℕ) (text other : List ℕ) → IsUtf8 text → IsUtf8 other → AreAlike limit text other
@@ -126,9 +125,7 @@ not-blank limit text pieces (more_pieces piece rest others h ended cut) ignored 
 
 means-none : (limit : ℕ) (text : List ℕ) (list : List (Span VersionValue)) → IsUtf8 text → Means limit text list → list ≡ []
     → IsWhollyIgnored limit text
-means-none limit text list u (every_version blank) e = cc e
-means-none limit text list u (all_intervals pieces l cut dark are) e =
-    (pieces, cut, pieces-ignored limit pieces l (pieces-utf8 text pieces cut u) are e)
+means-none limit text list u m e = grind (arith, pieces-ignored, pieces-utf8)
 
 pub rejected_if_ignored : (limit : ℕ) (text : List ℕ) → IsUtf8 text → Means limit text [] ↔ IsWhollyIgnored limit text
 rejected_if_ignored limit text u = (

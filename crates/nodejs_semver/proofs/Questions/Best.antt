@@ -42,8 +42,7 @@ module _ {W : Type 0} (value : W → VersionValue) (set : VersionValue → Bool)
 
   pub by_value : (beaten : VersionValue → VersionValue → Bool) (best : Option (Bor W)) (x : W) → replaces beaten set (value_of value best) (value x)
       ≡ replaces (λ b x. beaten (value b) (value x)) (λ w. set (value w)) (option_copied best) x
-  by_value beaten None x = refl
-  by_value beaten (Some b) x = refl
+  by_value beaten best x = grind arith
 
   -- the best so far of a loop over the list, one place further
   module _ (list : List W) (i : ℕ) (x : W) (best next : Option (Bor W)) (new : Bool) (within : i < length list) (at : x ≡ get_or list i x)
@@ -60,14 +59,14 @@ module _ {W : Type 0} (value : W → VersionValue) (set : VersionValue → Bool)
   best_version : (in_front behind : VersionValue → VersionValue → Bool) (list : List W) (r : Option (Bor W))
       → IsBest (λ w v. in_front (value w) (value v)) (λ w v. behind (value w) (value v)) (λ w. set (value w)) list (option_copied r)
       → IsBest in_front behind set (map value list) (value_of value r)
-  best_version in_front behind list None h = list_all-map _ value list ∙ h
+  best_version in_front behind list None h = grind (arith, list_all-map)
   best_version in_front behind list (Some v) h = (
     h.0,
     map value h.1,
     map value h.2,
-    ap (map value) h.3 ∙ map-append value h.1 (v.now ∷ h.2),
-    list_all-map _ value h.1 ∙ h.4,
-    list_all-map _ value h.2 ∙ h.5,
+    grind (arith, map-append),
+    grind (arith, list_all-map),
+    grind (arith, list_all-map),
   )
 
   pub max_version : (list : List W) (r : Option (Bor W)) → IsMaxOf value set list (option_copied r) → IsMax set (map value list) (value_of value r)
@@ -79,8 +78,7 @@ module _ {W : Type 0} (value : W → VersionValue) (set : VersionValue → Bool)
 -- what takes the place of the best is in the set, and the best is not in front of it
 pub replaces_both : {V : Type 0} (beaten : V → V → Bool) (set : V → Bool) (best : Option V) (v : V) (new : Bool)
     → new ≡ replaces beaten (λ _. true) best v → replaces beaten set best v ≡ (new && set v)
-replaces_both beaten set None v new is = rw is refl
-replaces_both beaten set (Some b) v new is = grind arith
+replaces_both beaten set best v new is = grind arith
 
 -- what callers cite of the best: it is a version of the list that is in the set, and none of the set in the list beats it; and
 -- there is none where no version of the list is in the set
@@ -103,7 +101,7 @@ module _ {V : Type 0} (in_front behind beaten : V → V → Bool) (front : (w v 
       (subst (λ l. Contains l v.now) (sym h.3) member, h.0, all_beaten list v.now h, tt)
 
 tied_le : (v : VersionValue) → is_le (precedence v v) ≡ true
-tied_le v = ap is_le (tied_itself precedence_total v)
+tied_le v = grind (arith, tied_itself, precedence_total)
 
 module _ {W : Type 0} (value : W → VersionValue) (set : VersionValue → Bool) (list : List W) (r : Option (Bor W)) where
   pub max_says : IsMaxOf value set list (option_copied r) → Says (λ w v. is_le (precedence (value w) (value v))) (λ w. set (value w)) list r

@@ -1,21 +1,20 @@
 -- Entries in order: where they are searched, and the bounds furthest up.
 use Rattle.nodejs_semver.proofs.Common.{After, AllWithin, Before, Bool, Bound, Equal, Greater, IsTotalOrder, Less, List, Ordering, Span, Unbounded}
 use Rattle.nodejs_semver.proofs.Common.{VersionValue, [], alike_right, any_same, ap, ap₂, arith, cut_cmp, cut_total, false, get_or}
-use Rattle.nodejs_semver.proofs.Common.{holds, if◌then◌else◌, inl, inr, is_eq, is_lt, is_past, is_past-down, length, length-append, list_any, list_any-append, lower_cut}
-use Rattle.nodejs_semver.proofs.Common.{gt_lt, is_le, not, one_way, or-false, ordering_reverse, ordering_then, precedence, precedence_total, refl, subst, suc, sym, take, take_next, tied_itself, true}
+use Rattle.nodejs_semver.proofs.Common.{holds, if◌then◌else◌, is_eq, is_lt, is_past, is_past-down, length, length-append, list_any, list_any-append, lower_cut}
+use Rattle.nodejs_semver.proofs.Common.{gt_lt, is_le, not, one_way, or-false, ordering_then, precedence, precedence_total, refl, subst, suc, sym, take, take_next, tied_itself, true}
 use Rattle.nodejs_semver.proofs.Common.{upper_cut, zero, ℕ, ◌&&◌, ◌++◌, ◌+◌, ◌<◌, ◌||◌, ◌∙◌, ◌∷◌, ◌≡◌, ◌≤◌}
 use Rattle.nodejs_semver.specs.Internal.Index.{AreEnds, AreInOrder, Entry, IsEnd, IsIndexOf, IsUpward, begins_upto, ends_below, entries_hold, is_further_up, is_of, is_upto, numbers_at, place_cmp}
-use Rattle.std.proofs.lemmas.Bool.{true≢false}
 use Rattle.std.proofs.lemmas.Cmp.{on_total, tied_back, then_total, upto}
 use Rattle.std.proofs.lemmas.List.{get_or_default, Sorted.{IsPartitionedBy-leb, list_any-IsPermutation, ranks_by, searchable_from_sorted, sorted_far}}
 use Rattle.std.specs.{List.Sorted.{IsPartitionedBy, IsPartitionPoint}, Ordering.ordering_index}
-use Rattle.std.proofs.lemmas.{Bool.cases_lt, List.{get_or_append_left, get_or_push}}
+use Rattle.std.proofs.lemmas.List.{get_or_append_left, get_or_push}
 use Rattle.std.specs.Prelude.{leb}
-use Rattle.nodejs_semver.proofs.Common.{Bor, Cut, and-true, passes, same_Some, tells, None, Option, Some, accepts, not-true, not_if, option_map, option_to_list, better_kept, fold, wanted, all_accept, list_all-append, append-nil, append_assoc, flat_map-append, has_bound, map-append, span_of, spans_of, any_flat, bound_of, cond_both, is_release, lets_in, list_any-map, names, same_triple}
+use Rattle.nodejs_semver.proofs.Common.{common_steps, Bor, Cut, and-true, passes, tells, None, Option, Some, accepts, not-true, not_if, option_map, option_to_list, better_kept, fold, wanted, all_accept, list_all-append, append-nil, append_assoc, flat_map-append, has_bound, map-append, span_of, spans_of, any_flat, bound_of, cond_both, is_release, lets_in, list_any-map, names, same_triple}
 use Rattle.nodejs_semver.specs.Internal.Candidates.{bare_release}
 use Rattle.nodejs_semver.specs.Internal.Candidates as candidate
 use Rattle.nodejs_semver.specs.{Ranges.Unions.says_all, Words.covers}
-use Rattle.semver_core.proofs.Gate.{in_two_steps, same_triple_is, triple_cmp}
+use Rattle.semver_core.proofs.Gate.{in_two_steps, same_triple_is}
 use Rattle.nodejs_semver.specs.Internal.Index.{Indexed, all_entries, all_pass, entries_cover, named, lets_pass, named_entries, pre_entries}
 
 pub place_total : IsTotalOrder place_cmp
@@ -26,23 +25,7 @@ place_total = then_total (on_total (λ (e : Entry). e.0) precedence_total)
 
 -- with the answers about the numbers and about the cuts
 upto_by : (r s : Ordering) → (elim r [ Less ↦ true | Equal ↦ is_le s | Greater ↦ false ]) ≡ leb (ordering_index (ordering_then r s)) 1
-upto_by Less s = refl
-upto_by Equal Less = refl
-upto_by Equal Equal = refl
-upto_by Equal Greater = refl
-upto_by Greater s = refl
-
-one_by : (r : Ordering) (p q : Bool) → (elim r [ Less ↦ true | Equal ↦ p | Greater ↦ false ]) ≡ true
-    → (is_eq r && (p && q)) ≡ (is_eq r && q)
-one_by Less p q h = refl
-one_by Equal p q h = ap (λ b. b && q) h
-one_by Greater p q h = refl
-
-none_by : (r : Ordering) (p q : Bool) → (elim r [ Less ↦ true | Equal ↦ p | Greater ↦ false ]) ≡ false
-    → (is_eq r && (p && q)) ≡ false
-none_by Less p q h = refl
-none_by Equal p q h = ap (λ b. b && q) h
-none_by Greater p q h = refl
+upto_by r s = grind arith
 
 -- those up to a bound of these numbers
 pub parted : (n : VersionValue) (b : Bound VersionValue) (es : List Entry) → AreInOrder es → IsPartitionedBy (is_upto n (begins_upto b)) es
@@ -57,14 +40,14 @@ none_of_front : {A : Type 0} (p : A → Bool) (xs : List A) (m : ℕ) (d : A) �
 none_of_front p [] zero d h = refl
 none_of_front p [] (suc m) d h = refl
 none_of_front p (x ∷ xs) zero d h = refl
-none_of_front p (x ∷ xs) (suc m) d h = ap₂ (λ a b. a || b) (h 0 (omega arith) (omega arith))
-    (none_of_front p xs m d (λ i a b. h (suc i) (omega arith) (omega arith)))
+none_of_front p (x ∷ xs) (suc m) d h =
+    grind (arith, h 0, none_of_front p xs m d (λ i a b. h (suc i) (omega arith) (omega arith)))
 
 -- an entry that does not come behind one of lesser numbers has lesser ones too
 lesser_by : (e f n : VersionValue) (r s : Ordering) → precedence f e ≡ r → is_lt (ordering_then r s) ≡ false → precedence f n ≡ Less → precedence e n ≡ Less
-lesser_by e f n Less s i h k = absurd (true≢false h)
-lesser_by e f n Equal s i h k = sym (precedence_total.congr f e n i) ∙ k
-lesser_by e f n Greater s i h k = precedence_total.trans e f n (precedence_total.antisymm e f ∙ ap ordering_reverse i) k
+lesser_by e f n r s i h k =
+    let o = precedence_total in
+    grind (arith, o.congr f e n, o.trans e f n, o.antisymm e f)
 
 -- none up to an entry of lesser numbers is of these
 none_of : (es : List Entry) (k : ℕ) (d : Entry) (n : VersionValue) (q : Entry → Bool) → AreInOrder es → k < length es
@@ -73,26 +56,19 @@ none_of es k d n q o l h = none_of_front (λ e. is_of n e && q e) es (k + 1) d (
     let e = get_or es i d in
     let f = get_or es k d in
     let up = sorted_far (λ (x y : Entry). is_lt (place_cmp x y)) (ranks_by place_total (λ (x : Entry). x)) es o i k d (omega arith) l in
-    ap (λ r. is_eq r && q e) (lesser_by e.0 f.0 n (precedence f.0 e.0) (cut_cmp precedence (lower_cut f.1.lower) (lower_cut e.1.lower)) refl up h))
+    ap (λ r. is_eq r && q e) (lesser_by e.0 f.0 n (precedence f.0 e.0) _ refl up h))
 
 equal_is : (r : Ordering) → is_eq r ≡ true → r ≡ Equal
-equal_is Equal h = refl
-equal_is Less h = cc
-equal_is Greater h = cc
+equal_is r h = grind arith
 
 less_is : (r : Ordering) (p : Bool) → (elim r [ Less ↦ true | Equal ↦ p | Greater ↦ false ]) ≡ true → is_eq r ≡ false → r ≡ Less
-less_is Less p u h = refl
-less_is Equal p u h = cc
-less_is Greater p u h = cc
+less_is r p u h = grind arith
 
 -- the last of some entries is of these numbers, and so the bound furthest up is that of these numbers
 of_last : (n : VersionValue) (q : Cut VersionValue → Bool) (es : List Entry) (k : ℕ) (d : Entry) (b : Bound VersionValue)
     → precedence (get_or es k d).0 n ≡ Equal → IsUpward q → IsEnd es k b
     → list_any (λ e. is_of n e && q (upper_cut e.1.upper)) (take (k + 1) es) ≡ q (upper_cut b)
-of_last n q es k d b e u h =
-    any_same (λ x. is_of n x && q (upper_cut x.1.upper)) (λ x. is_of (get_or es k d).0 x && q (upper_cut x.1.upper))
-    (λ x. ap (λ r. is_eq r && q (upper_cut x.1.upper)) (sym (alike_right precedence_total (get_or es k d).0 n x.0 e)))
-    (take (k + 1) es) ∙ sym (h q u d)
+of_last n q es k d b e u h = grind (arith, any_same, h q u d, alike_right, precedence_total)
 
 -- of entries in order it is asked whether one of these numbers begins early enough and ends far enough up
 module _ (n : VersionValue) (early : Entry → Bool) (q : Cut VersionValue → Bool) where
@@ -104,19 +80,19 @@ module _ (n : VersionValue) (early : Entry → Bool) (q : Cut VersionValue → B
       → asked es ≡ list_any (λ e. is_of n e && q (upper_cut e.1.upper)) (take p es)
   front [] zero h k = refl
   front [] (suc p) h k = refl
-  front (e ∷ es) zero h k = ap₂ (λ a b. a || b)
-      (none_by (precedence e.0 n) (early e) (q (upper_cut e.1.upper)) (k 0 e (omega arith) (omega arith)))
-      (front es zero (λ i d a b. absurd (omega arith)) (λ i d a b. k (suc i) d (omega arith) (omega arith)))
-  front (e ∷ es) (suc p) h k = ap₂ (λ a b. a || b)
-      (one_by (precedence e.0 n) (early e) (q (upper_cut e.1.upper)) (h 0 e (omega arith) (omega arith)))
-      (front es p (λ i d a b. h (suc i) d (omega arith) (omega arith)) (λ i d a b. k (suc i) d (omega arith) (omega arith)))
+  front (e ∷ es) zero h k =
+      grind (arith, k 0 e, front es zero (λ i d a b. absurd (omega arith))
+      (λ i d a b. k (suc i) d (omega arith) (omega arith)))
+  front (e ∷ es) (suc p) h k =
+      grind (arith, h 0 e, front es p (λ i d a b. h (suc i) d (omega arith) (omega arith))
+      (λ i d a b. k (suc i) d (omega arith) (omega arith)))
 
   -- where the search ends: k is the place before
   module _ (es : List Entry) (p k : ℕ) (o : AreInOrder es) (l : p ≤ length es) (at : p ≡ k + 1)
       (point : IsPartitionPoint (λ e. is_upto n early e ≡ true) (λ e. is_upto n early e ≡ false) es p) where
     in_front : list_any (λ e. is_of n e && q (upper_cut e.1.upper)) (take p es)
         ≡ list_any (λ e. is_of n e && q (upper_cut e.1.upper)) (take (k + 1) es)
-    in_front = ap (λ m. list_any (λ e. is_of n e && q (upper_cut e.1.upper)) (take m es)) at
+    in_front = cc
 
     pub found : (e : Entry) (b : Bound VersionValue) → e ≡ get_or es k e → is_eq (precedence e.0 n) ≡ true → IsUpward q → IsEnd es k b
         → q (upper_cut b) ≡ asked es
@@ -129,8 +105,7 @@ module _ (n : VersionValue) (early : Entry → Bool) (q : Cut VersionValue → B
 
   pub found_none : (es : List Entry) (p : ℕ) → p ≡ 0
       → IsPartitionPoint (λ e. is_upto n early e ≡ true) (λ e. is_upto n early e ≡ false) es p → false ≡ asked es
-  found_none es p at point = sym (front es p point.0 point.1
-      ∙ none_of_front (λ e. is_of n e && q (upper_cut e.1.upper)) es p (n, record { lower = Unbounded; upper = Unbounded }) (λ i a b. absurd (omega arith)))
+  found_none es p at point = grind (arith, front es p)
 
 -- the tests of the two questions
 pub up_past : (v : VersionValue) → IsUpward (λ c. not (is_past precedence c v))
@@ -142,39 +117,23 @@ up_far a c d h k = (tells (cut_cmp precedence a d)).0 ∙ ap not (upto (cut_tota
 
 -- ---- the bounds furthest up
 
-either_first : (p q : Bool) → (q ≡ true → p ≡ true) → (p || q) ≡ p
-either_first true q h = refl
-either_first false true h = sym (h refl)
-either_first false false h = refl
-
-either_second : (p q : Bool) → (p ≡ true → q ≡ true) → (p || q) ≡ q
-either_second false q h = refl
-either_second true q h = sym (h refl)
-
 further : (b c : Bound VersionValue) (q : Cut VersionValue → Bool) → IsUpward q → is_further_up b c ≡ true
     → (q (upper_cut b) || q (upper_cut c)) ≡ q (upper_cut b)
-further b c q u h = either_first _ _ (u (upper_cut c) (upper_cut b)
-    (one_way precedence_total (upper_cut c) (upper_cut b) (sym (gt_lt precedence_total (upper_cut b) (upper_cut c)) ∙ h)))
+further b c q u h = grind (arith, one_way, precedence_total, gt_lt, u)
 
 not_further : (b c : Bound VersionValue) (q : Cut VersionValue → Bool) → IsUpward q → is_further_up b c ≡ false
     → (q (upper_cut b) || q (upper_cut c)) ≡ q (upper_cut c)
-not_further b c q u h = either_second _ _ (u (upper_cut b) (upper_cut c) (sym (gt_lt precedence_total (upper_cut b) (upper_cut c)) ∙ h))
+not_further b c q u h = grind (arith, gt_lt, precedence_total, u)
 
 of_itself : (e : Entry) (q : Cut VersionValue → Bool) → (is_of e.0 e && q (upper_cut e.1.upper)) ≡ q (upper_cut e.1.upper)
 of_itself e q = ap (λ r. is_eq r && q (upper_cut e.1.upper)) (tied_itself precedence_total e.0)
 
 pub first_end : (es : List Entry) (i : ℕ) (f : Entry) → i ≡ 0 → i < length es → f ≡ get_or es i f → IsEnd es i f.1.upper
-first_end es i f z l at = subst (λ j. j < length es → f ≡ get_or es j f → IsEnd es j f.1.upper) (sym z) (at_front es f) l at
-  where
-    at_front : (es : List Entry) (f : Entry) → 0 < length es → f ≡ get_or es 0 f → IsEnd es 0 f.1.upper
-    at_front [] f l at = absurd (omega arith)
-    at_front (e ∷ es) f l at = λ q u c. rw at (sym (or-false (is_of e.0 e && q (upper_cut e.1.upper)) ∙ of_itself e q))
+first_end es i f z l at = λ q u c. grind (arith, of_itself)
 
 -- an entry of other numbers that does not come before is of greater ones
 before : (e f : VersionValue) (r s : Ordering) → precedence f e ≡ r → is_lt (ordering_then r s) ≡ false → is_eq r ≡ false → precedence e f ≡ Less
-before e f Less s i h k = absurd (true≢false h)
-before e f Equal s i h k = absurd (true≢false k)
-before e f Greater s i h k = precedence_total.antisymm e f ∙ ap ordering_reverse i
+before e f r s i h k = grind (arith, precedence_total.antisymm)
 
 -- the bound furthest up, of an entry and a next one of the same numbers or of others
 module _ (es : List Entry) (k : ℕ) (e f : Entry) (b : Bound VersionValue) (q : Cut VersionValue → Bool) (u : IsUpward q) (o : AreInOrder es)
@@ -213,23 +172,13 @@ next_end es k i e f b t o at l is next h j = λ q u c.
 -- one more
 pub ends_more : {V : Type 0} (value : V → VersionValue) (es : List Entry) (bs new : List (Bor (Bound V))) (b : Bor (Bound V)) (i : ℕ)
     → length bs ≡ i → new ≡ bs ++ b ∷ [] → AreEnds value es bs → IsEnd es i (bound_of value b.now) → AreEnds value es new
-ends_more value es bs new b i n at h m = λ k d l. elim (cases_lt k i) [
-  | inl p ↦ subst (λ (x : Bor (Bound _)). IsEnd es k (bound_of value x.now)) (sym (ap (λ xs. get_or xs k d) at ∙ get_or_append_left bs (b ∷ []) d k (omega (arith, n))))
-      (h k d (omega (arith, n)))
-  | inr p ↦
-      let k_is : k ≡ i = omega (arith, n, ap length at, length-append bs (b ∷ [])) in
-      rw k_is (subst (λ (x : Bor (Bound _)). IsEnd es i (bound_of value x.now)) (sym (ap (λ xs. get_or xs i d) at ∙ get_or_push bs b d i n)) m)
-]
+ends_more value es bs new b i n at h m =
+    λ k d l. grind (arith, length-append, get_or_append_left, get_or_push, h k d)
 
 -- ---- what the entries of spans hold
 
-zero_then : (r : Ordering) → is_eq (ordering_then r Equal) ≡ is_eq r
-zero_then Less = refl
-zero_then Equal = refl
-zero_then Greater = refl
-
 same_numbers : (w v : VersionValue) → is_eq (precedence (bare_release w) (bare_release v)) ≡ same_triple w v
-same_numbers w v = ap is_eq (in_two_steps (bare_release w) (bare_release v)) ∙ zero_then (triple_cmp w v) ∙ sym (same_triple_is w v)
+same_numbers w v = grind (arith, in_two_steps, same_triple_is)
 
 abbrev held : VersionValue → VersionValue → Entry → Bool
 held n v e = is_of n e && holds precedence e.1 v
@@ -238,7 +187,7 @@ hold_at : (s : Span VersionValue) (w v : VersionValue) → list_any (held (bare_
     ≡ ((not (is_release w) && same_triple w v) && holds precedence s v)
 hold_at s w v = cond_both (is_release w) None (Some (bare_release w))
     (λ o. list_any (held (bare_release v) v) (option_to_list (option_map (λ n. (n, s)) o)) ≡ ((not (is_release w) && same_triple w v) && holds precedence s v))
-    (λ r. ap (λ q. (not q && same_triple w v) && holds precedence s v) (sym r))
+    (λ r. rw r refl)
     (λ r. or-false (held (bare_release v) v (bare_release w, s))
     ∙ ap₂ (λ p q. (not p && q) && holds precedence s v) (sym r) (same_numbers w v))
 
@@ -269,17 +218,11 @@ pub entries_further : {V : Type 0} (value : V → VersionValue) (xs : List (Span
     → more ≡ (ps ++ named_entries (span_of value x) (bound_of value x.lower)) ++ named_entries (span_of value x) (bound_of value x.upper)
     → (new ≡ all_entries (spans_of value (take (i + 1) xs))) × (more ≡ pre_entries (spans_of value (take (i + 1) xs)))
 entries_further value xs i x rs ps new more l at h k n m =
-    let next : spans_of value (take (i + 1) xs) ≡ spans_of value (take i xs) ++ span_of value x ∷ []
-    = ap (spans_of value) (take_next xs i x l at) ∙ map-append (span_of value) (take i xs) (x ∷ []) in (
-      n ∙ ap (λ es. es ++ (candidate.zero, span_of value x) ∷ []) h ∙ sym (ap all_entries next ∙ map-append _ (spans_of value (take i xs)) (span_of value x ∷ [])),
-      m ∙ append_assoc ps _ _ ∙ ap (λ es. es ++ (named_entries (span_of value x) (bound_of value x.lower) ++ named_entries (span_of value x) (bound_of value x.upper))) k
-          ∙ sym (ap pre_entries next ∙ flat_map-append _ (spans_of value (take i xs)) (span_of value x ∷ []) ∙ ap (λ es. pre_entries (spans_of value (take i xs)) ++ es) (append-nil _)),
-    )
+    let next = take_next xs i x l at in
+    grind (arith, common_steps, map-append, flat_map-append, append_assoc, append-nil, next)
 
 pub passes_all : (ss : List (Span VersionValue)) (i : Indexed) → IsIndexOf ss i → (v : VersionValue) → lets_pass i v ≡ accepts ss v false
-passes_all ss i h v = cond_both (is_release v) (entries_hold i.0 candidate.zero v) (entries_hold i.1 (bare_release v) v) (λ q. q ≡ accepts ss v false)
-    (λ r. sym (list_any-IsPermutation (held candidate.zero v) _ i.0 h.0) ∙ release_hold v ss r)
-    (λ r. sym (list_any-IsPermutation (held (bare_release v) v) _ i.1 h.1) ∙ pre_hold v ss r)
+passes_all ss i h v = grind (arith, list_any-IsPermutation, release_hold, pre_hold)
 
 -- ---- what one of the spans says all of
 
@@ -298,10 +241,9 @@ cover_named s t n (Some m) = or-false _
 
 names_at : (x w n : VersionValue) → precedence (bare_release w) n ≡ Equal
     → (not (is_release x) && same_triple x w) ≡ (elim (numbers_at x) [ None ↦ false | Some m ↦ is_eq (precedence m n) ])
-names_at x w n e = cond_both (is_release x) None (Some (bare_release x))
-    (λ o. (not (is_release x) && same_triple x w) ≡ (elim o [ None ↦ false | Some m ↦ is_eq (precedence m n) ]))
-    (λ r. ap (λ q. not q && same_triple x w) r)
-    (λ r. ap (λ q. not q && same_triple x w) r ∙ sym (same_numbers x w) ∙ ap is_eq (alike_right precedence_total (bare_release w) n (bare_release x) e))
+names_at x w n e =
+    let tied = alike_right precedence_total (bare_release w) n (bare_release x) e in
+    grind (arith, same_numbers x w, tied)
 
 names_is : (b : Bound VersionValue) (w n : VersionValue) → precedence (bare_release w) n ≡ Equal → names b w ≡ has_numbers n b
 names_is Unbounded w n e = refl
@@ -311,33 +253,24 @@ names_is (After x) w n e = names_at x w n e
 -- a version of a bound is let in by what has its numbers, and a release by all
 kept_at : (s : Span VersionValue) (w n m : VersionValue) (r : Bool) → is_release w ≡ r → (if r then None else Some (bare_release w)) ≡ Some m
     → precedence m n ≡ Equal → not (lets_in s w) ≡ not (numbers_of n s)
-kept_at s w n m true k h e = cc
-kept_at s w n m false k h e =
-    let is : precedence (bare_release w) n ≡ Equal = ap (λ x. precedence x n) (same_Some _ _ h) ∙ e in
-    ap not (ap (λ q. q || (names s.lower w || names s.upper w)) k ∙ ap₂ (λ p q. p || q) (names_is s.lower w n is) (names_is s.upper w n is))
+kept_at s w n m r k h e = grind (arith, names_is)
 
 let_at : (s : Span VersionValue) (w : VersionValue) (r : Bool) → is_release w ≡ r → (if r then None else Some (bare_release w)) ≡ None
     → not (lets_in s w) ≡ false
-let_at s w true k h = ap (λ q. not (q || (names s.lower w || names s.upper w))) k
-let_at s w false k h = cc
+let_at s w r k h = grind arith
 
 kept_out : (s : Span VersionValue) (b : Bound VersionValue) (n m : VersionValue) → named b ≡ Some m → precedence m n ≡ Equal
     → passes (λ w. not (lets_in s w)) b ≡ not (numbers_of n s)
-kept_out s Unbounded n m h e = cc
-kept_out s (Before w) n m h e = kept_at s w n m _ refl h e
-kept_out s (After w) n m h e = kept_at s w n m _ refl h e
+kept_out s b n m h e = grind (arith, kept_at)
 
 let_in : (s : Span VersionValue) (b : Bound VersionValue) → named b ≡ None → passes (λ w. not (lets_in s w)) b ≡ false
-let_in s Unbounded h = refl
-let_in s (Before w) h = let_at s w _ refl h
-let_in s (After w) h = let_at s w _ refl h
+let_in s b h = grind (arith, let_at)
 
 either_covers : (p q c : Bool) → ((p && c) || (q && c)) ≡ (c && not (not (p || q)))
 either_covers p q c = grind arith
 
 or_same : (p : Bool) → (p || p) ≡ p
-or_same true = refl
-or_same false = refl
+or_same p = grind arith
 
 -- the three ways in which t's bounds may have numbers
 module _ (t : Span VersionValue) (ss : List (Span VersionValue)) (i : Indexed) (h : IsIndexOf ss i) where
@@ -357,10 +290,14 @@ module _ (t : Span VersionValue) (ss : List (Span VersionValue)) (i : Indexed) (
       ∙ ap (λ a. covers precedence s t && not a) (sym (ap₂ (λ a b. a || b) (let_in s t.lower p) (let_in s t.upper q)))) ss
 
   pub say_lower : (n : VersionValue) → named t.lower ≡ Some n → named t.upper ≡ None → entries_cover i.1 n t ≡ list_any (λ s. says_all s t) ss
-  say_lower n p q = among n (λ s. ap₂ (λ a b. a || b) (kept_out s t.lower n n p (tied_itself precedence_total n)) (let_in s t.upper q) ∙ or-false _)
+  say_lower n p q =
+      let own = tied_itself precedence_total n in
+      among n (λ s. grind (arith, kept_out s t.lower n n p own, let_in s t.upper q))
 
   pub say_upper : (n : VersionValue) → named t.lower ≡ None → named t.upper ≡ Some n → entries_cover i.1 n t ≡ list_any (λ s. says_all s t) ss
-  say_upper n p q = among n (λ s. ap₂ (λ a b. a || b) (let_in s t.lower p) (kept_out s t.upper n n q (tied_itself precedence_total n)))
+  say_upper n p q =
+      let own = tied_itself precedence_total n in
+      among n (λ s. grind (arith, let_in s t.lower p, kept_out s t.upper n n q own))
 
   pub say_both : (n m : VersionValue) → named t.lower ≡ Some n → named t.upper ≡ Some m → is_eq (precedence n m) ≡ true
       → entries_cover i.1 n t ≡ list_any (λ s. says_all s t) ss
@@ -371,13 +308,10 @@ module _ (t : Span VersionValue) (ss : List (Span VersionValue)) (i : Indexed) (
 pub all_further : (is new : List Indexed) (rs : List (List (Span VersionValue))) (k : ℕ) (r : List (Span VersionValue)) (i : Indexed) (v : VersionValue)
     → k < length rs → r ≡ get_or rs k r → new ≡ is ++ i ∷ [] → all_pass is v ≡ all_accept (take k rs) v → lets_pass i v ≡ accepts r v false
     → all_pass new v ≡ all_accept (take (k + 1) rs) v
-all_further is new rs k r i v l at n h m = ap (λ xs. all_pass xs v) n ∙ list_all-append (λ (x : Indexed). lets_pass x v) is (i ∷ [])
-    ∙ ap₂ (λ p q. p && (q && true)) h m ∙ sym (ap (λ xs. all_accept xs v) (take_next rs k r l at)
-    ∙ list_all-append (λ (x : List (Span VersionValue)). accepts x v false) (take k rs) (r ∷ []))
+all_further is new rs k r i v l at n h m = grind (arith, list_all-append, take_next rs k r l at)
 
 -- a search over the same lists
 pub search_same : {W : Type 0} (value : W → VersionValue) (copies copies' : Bool) (ks ks' : List (List (Span VersionValue))) (ls ls' : List (Span W))
     (xs : List VersionValue) (best : Option VersionValue) → copies ≡ copies' → ks ≡ ks' → ls ≡ ls'
     → best ≡ fold (better_kept copies (wanted ks (spans_of value ls))) None xs → best ≡ fold (better_kept copies' (wanted ks' (spans_of value ls'))) None xs
-search_same value copies copies' ks ks' ls ls' xs best c k l h =
-    h ∙ λ i. fold (better_kept (c i) (wanted (k i) (spans_of value (l i)))) None xs
+search_same value copies copies' ks ks' ls ls' xs best c k l h = grind arith

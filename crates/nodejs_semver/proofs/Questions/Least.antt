@@ -3,12 +3,12 @@
 use Rattle.nodejs_semver.proofs.Common.{After, All, All-append, All-cons, All-from_recursion, All-head, All-nil, All-tail, Before, Beside, Bool}
 use Rattle.nodejs_semver.proofs.Common.{Bound, Cut, End, Equal, Far, Id, IfSome, IsLeastOf, Less, List, Near, None, Numeric, Option, Ordering, Some}
 use Rattle.nodejs_semver.proofs.Common.{Span, Start, Unbounded, VersionValue, [], above_patch, accepts, alike_right, all_accept, all_flat, all_weaker}
-use Rattle.nodejs_semver.proofs.Common.{and-true, and_from, and_parts, any_flat, any_same, any_under, ap, ap₂, arith, begins_with, below_named}
+use Rattle.nodejs_semver.proofs.Common.{and-true, and_from, and_parts, any_flat, any_same, any_under, ap, arith, begins_with, below_named}
 use Rattle.nodejs_semver.proofs.Common.{beside, better, beyond, bool_cmp, build_by, candidates, cases_Bool, chain, common_steps, cond_both, cut_total}
 use Rattle.nodejs_semver.proofs.Common.{empty_is, false, find, first_so, firsts, flat_map, fold, gt_lt, holds, if◌then◌else◌, inl, inr}
 use Rattle.nodejs_semver.proofs.Common.{irreflexive, is_gt, is_le, is_past, is_past-down, is_release, least_build, least_of, length, lets_in}
 use Rattle.nodejs_semver.proofs.Common.{list_all, list_all-append, list_any, list_marks, lower_cut, map, names, nat_tests, not, not-true, not_above}
-use Rattle.nodejs_semver.proofs.Common.{or-false, or_cases, or_left, or_right, ordering_then, past_lt, pick_both, pre_cmp}
+use Rattle.nodejs_semver.proofs.Common.{or-false, or_cases, or_left, or_right, past_lt, pick_both, pre_cmp}
 use Rattle.nodejs_semver.proofs.Common.{precedence, precedence_total, refl, release_value, removed_marks, second_so, subst, sym, tells, tied_itself}
 use Rattle.nodejs_semver.proofs.Common.{true, upper_cut, version_eq, wanted, ◌&&◌, ◌++◌, ◌<◌, ◌||◌, ◌∙◌, ◌∷◌, ◌≡◌}
 use Rattle.nodejs_semver.proofs.{Common.{IsTrue, ◌↔◌}, Questions.Unions.by_least}
@@ -93,7 +93,7 @@ pub lets_in_alike : (s : Span VersionValue) (x v : VersionValue) → Alike x v �
 lets_in_alike s x v k = grind (arith, same_triple_is, alike_right, triple_total)
 
 kind_of_release : (x v : VersionValue) → is_release x ≡ true → is_release v ≡ true → Alike x v
-kind_of_release x v h k = record { release = h ∙ sym k; triple = λ e. cc }
+kind_of_release x v h k = grind arith
 
 -- ---- the first versions past a mark
 
@@ -104,10 +104,10 @@ pub record Begins (g : Cut VersionValue) (v x : VersionValue) : Type 0 where
   pub alike : Alike x v
 
 pub past_near : (w x : VersionValue) → precedence w x ≡ Equal → is_past precedence (Beside w Near) x ≡ true
-past_near w x e = ap (λ q. is_le (ordering_then q Equal)) e
+past_near w x e = grind arith
 
 pub past_less : (w x : VersionValue) (s : Bool) → precedence w x ≡ Less → is_past precedence (Beside w s) x ≡ true
-past_less w x s e = ap (λ q. is_le (ordering_then q (bool_cmp s Near))) e
+past_less w x s e = grind arith
 
 -- what lies past the far side of a point is above the point
 pub far_less : (w v : VersionValue) → is_past precedence (Beside w Far) v ≡ true → precedence w v ≡ Less
@@ -302,12 +302,9 @@ candidate ks kss ls v h = any_flat found firsts (Start ∷ marks) ∙ greatest v
 module _ (set : VersionValue → Bool) where
   -- ---- what is best so far is in the set, and no version of it that was seen is below
 
-  better_fine : (best : Option VersionValue) (x : VersionValue) → IfSome best (λ b. set b ≡ true) → IfSome (better set best x) (λ b. set b ≡ true)
-  better_fine best x h = grind arith
-
   fold_fine : (best : Option VersionValue) (xs : List VersionValue) → IfSome best (λ b. set b ≡ true) → IfSome (fold (better set) best xs) (λ b. set b ≡ true)
   fold_fine best [] h = h
-  fold_fine best (x ∷ xs) h = fold_fine (better set best x) xs (better_fine best x h)
+  fold_fine best (x ∷ xs) h = grind (arith, fold_fine (better set best x) xs)
 
   -- v is reached by the best so far, or by x
   reaches : (best : Option VersionValue) (x v : VersionValue) → (is_reached best v || (set x && is_le (precedence x v))) ≡ true
@@ -365,10 +362,7 @@ module _ (set : VersionValue → Bool) where
   -- the least version that a list names, where each version of the set has one of the list that is not above it
   pub least_named : (xs : List VersionValue) → ((v : VersionValue) → set v ≡ true → list_any (λ x. set x && is_le (precedence x v)) xs ≡ true)
       → IsLeastOf set (least_of set xs)
-  least_named xs f = by_answer (least_of set xs) (fold_fine None xs tt) (λ v h. fold_reaches None xs v (f v h))
-    where
-      by_answer : (r : Option VersionValue) → IfSome r (λ b. set b ≡ true) → ((v : VersionValue) → set v ≡ true → is_reached r v ≡ true) → IsLeastOf set r
-      by_answer r h f = grind arith
+  least_named xs f = grind (arith, fold_fine None xs, fold_reaches None xs)
 
 -- a set with the same versions has the same least one
 same_least : (p q : VersionValue → Bool) (r : Option VersionValue) → ((v : VersionValue) → p v ≡ q v) → IsLeastOf p r → IsLeastOf q r
@@ -388,7 +382,7 @@ least_wanted (ks ∷ kss) ls n = subst (λ (set : VersionValue → Bool). IsLeas
 -- of no lists it is the least version, and of more the least that all accept and nothing rejects
 pub least_of_none : (lists : List (List (Span VersionValue))) (v : VersionValue) → length lists < 1
     → v ≡ record (release_value 0 0 0) { pre_release = Numeric 0 ∷ [] } → IsLeastOf (all_accept lists) (Some v)
-least_of_none [] v n e = subst (λ (x : VersionValue). IsLeastOf (all_accept []) (Some x)) (sym e) (refl, λ w h. first_of_all w)
+least_of_none [] v n e = rw e (refl, λ w h. first_of_all w)
 least_of_none (ks ∷ kss) v n e = absurd (omega arith)
 
 -- of one list it is the least beyond the other
@@ -415,7 +409,7 @@ fold_bare set best (x ∷ xs) h e = fold_bare set (better set best x) xs (cond_b
 
 pub list_bare : (set : VersionValue → Bool) (xs : List VersionValue) (r : Option VersionValue) → All (λ v. v.build ≡ []) xs
     → r ≡ least_of set xs → IfSome r (λ v. v.build ≡ [])
-list_bare set xs r bare e = subst (λ o. IfSome o IsBare) (sym e) (fold_bare set None xs tt bare)
+list_bare set xs r bare e = grind (arith, fold_bare)
 
 pub least_bare : (set : VersionValue → Bool) (kss : List (List (Span VersionValue))) (ls : List (Span VersionValue))
     (r : Option VersionValue) → r ≡ least_of set (candidates kss ls) → IfSome r (λ v. v.build ≡ [])
@@ -432,7 +426,7 @@ accepts_built ks v b = any_same _ _ (λ s. admits_built s v b) ks
 
 all_built : (kss : List (List (Span VersionValue))) (v : VersionValue) (b : List Id) → all_accept kss (record v { build = b }) ≡ all_accept kss v
 all_built [] v b = refl
-all_built (ks ∷ kss) v b = ap₂ (λ p q. p && q) (accepts_built ks v b) (all_built kss v b)
+all_built (ks ∷ kss) v b = grind (arith, accepts_built, all_built kss v b)
 
 pub wanted_bare : (w : VersionValue) (kss : List (List (Span VersionValue))) (ls : List (Span VersionValue))
     → wanted kss ls (bare w) ≡ wanted kss ls w
@@ -440,25 +434,16 @@ wanted_bare w kss ls = grind (arith, all_built, accepts_built)
 
 pub better_bare : (copies : Bool) (set : VersionValue → Bool) (b : Bool) (best : Option VersionValue) (w : VersionValue)
     → b ≡ (improves best w && set (bare w)) → (if b then Some (kept copies (bare w)) else best) ≡ better_kept copies set best (bare w)
-better_bare copies set b None w e = ap (λ t. if t then Some (kept copies (bare w)) else None) e
-better_bare copies set b (Some x) w e = ap (λ t. if t then Some (kept copies (bare w)) else Some x) e
-
--- what was found stays
-stays : (copies : Bool) (set : VersionValue → Bool) (b x : VersionValue) → is_none (better_kept copies set (Some b) x) ≡ false
-stays copies set b x = cond_both (improves (Some b) x && set x) (Some (kept copies x)) (Some b) (λ o. is_none o ≡ false) (λ _. refl) (λ _. refl)
+better_bare copies set b best w e = grind arith
 
 -- a search that copies nothing finds something where one that copies does
 same_found : (set : VersionValue → Bool) (copies : Bool) (xs : List VersionValue) (best other : Option VersionValue)
     → is_none best ≡ is_none other → is_none (fold (better_kept copies set) best xs) ≡ is_none (fold (better set) other xs)
 same_found set copies [] best other e = e
-same_found set copies (x ∷ xs) None None e = same_found set copies xs _ _ (grind arith)
-same_found set copies (x ∷ xs) None (Some b) e = cc e
-same_found set copies (x ∷ xs) (Some a) None e = cc e
-same_found set copies (x ∷ xs) (Some a) (Some b) e = same_found set copies xs _ _ (stays copies set a x ∙ sym (stays true set b x))
+same_found set copies (x ∷ xs) best other e = same_found set copies xs _ _ (grind arith)
 
 pub answered : {A : Type 0} (r : Option A) (answer : Bool) → is_some r ≡ not answer → answer ≡ is_none r
-answered r true e = sym (ap not e)
-answered r false e = sym (ap not e)
+answered r answer e = grind arith
 
 -- it finds nothing where there is nothing beyond
 pub found_beyond : (copies : Bool) (ks ls : List (Span VersionValue)) (kss : List (List (Span VersionValue))) (removed : List (Span VersionValue))
@@ -471,7 +456,7 @@ found_beyond copies ks ls kss removed r answer k l is e =
 -- the least beyond nothing is the least that is accepted, whatever its build
 pub least_accepted : (ks : List (Span VersionValue)) (v : VersionValue) (b : List Id) → IsLeastOf (beyond ks []) (Some v)
     → IsLeastOf (λ w. accepts ks w false) (Some (record v { build = b }))
-least_accepted ks v b h = (accepts_built ks v b ∙ sym (and-true _) ∙ h.0, λ w e. h.1 w (and-true _ ∙ e))
+least_accepted ks v b h = grind (arith, accepts_built)
 
 find_same : {X : Type 0} (p q : X → Bool) (xs : List X) → ((x : X) → p x ≡ q x) → find p xs ≡ find q xs
 find_same p q xs f = λ i. find (λ x. f x i) xs
@@ -531,11 +516,11 @@ past_bare b = grind arith
 
 bare_firsts : (ss : List (Span VersionValue)) → All (λ v. v.build ≡ []) (firsts_past ss)
 bare_firsts [] = All-nil (λ v. v.build ≡ [])
-bare_firsts (s ∷ ss) = All-cons (λ v. v.build ≡ []) (first_past s.lower) (firsts_past ss) (past_bare s.lower) (bare_firsts ss)
+bare_firsts (s ∷ ss) = grind (arith, All-cons, past_bare, bare_firsts ss)
 
 pub held_bare : (ss : List (Span VersionValue)) (r : Option VersionValue) → r ≡ least_of (λ v. accepts ss v true) (firsts_past ss)
     → IfSome r (λ v. v.build ≡ [])
-held_bare ss r e = list_bare (λ v. accepts ss v true) (firsts_past ss) r (bare_firsts ss) e
+held_bare ss r e = grind (arith, list_bare, bare_firsts)
 
 -- a version without its build is held as it is with it
 pub held_alike : (w : VersionValue) (ss : List (Span VersionValue)) → accepts ss (bare w) true ≡ accepts ss w true

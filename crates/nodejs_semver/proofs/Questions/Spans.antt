@@ -9,7 +9,7 @@ use Rattle.nodejs_semver.proofs.Common.{map-append, nat_tests, not, not_if, opti
 use Rattle.nodejs_semver.proofs.Common.{removed_marks, span_of, spans_of, subst, sym, take, take_next, tells, tied_itself, true, ℕ, ◌&&◌, ◌++◌, ◌+◌}
 use Rattle.nodejs_semver.{proofs.{Common.{◌-◌, ◌<◌, ◌^◌, ◌||◌, ◌∙◌, ◌∷◌, ◌≡◌, ◌⊎◌}, Values.map-further}, specs.Internal.Candidates.{EndsAfterPre, Finds}}
 use Rattle.nodejs_semver.specs.Internal.Candidates.{IsLeastBuilt, MayAllocate, StartsWith, first_past, has_build, lesser, zero}
-use Rattle.nodejs_semver.proofs.Common.{After, Before, Err, Ok, Result, Unbounded, build_by, option_and_then}
+use Rattle.nodejs_semver.proofs.Common.{Err, Result, build_by, option_and_then}
 use Rattle.std.specs.Result.{IsOkAnd, MatchResult, OnErr}
 use Rattle.nodejs_semver.specs.Ranges.Least.{begins_with, names_identifiers}
 use Rattle.semver_core.specs.{Cuts.{has_bound, passes}, Lists.is_empty, Values.Versions.{HasIdentifiers, is_release}}
@@ -34,7 +34,8 @@ module _ {V : Type 0} (value : V → VersionValue) (xs : List (Span V)) (i : ℕ
   long_at = omega (arith, within, length-map xs (span_of value))
 
   pub raisable_at : All IsRaisable (spans_of value xs) → IsRaisable (span_of value x)
-  raisable_at h = subst IsRaisable (same_at (span_of value x)) (All-get_or IsRaisable (spans_of value xs) i (span_of value x) long_at h)
+  raisable_at h =
+      grind (arith, same_at, long_at, All-get_or IsRaisable (spans_of value xs) i (span_of value x))
 
   pub any_at : (P : Span VersionValue → Type 0) → P (span_of value x) → Any P (spans_of value xs)
   any_at P h = (i, span_of value x, long_at, same_at (span_of value x), h)
@@ -45,11 +46,7 @@ module _ {V : Type 0} (value : V → VersionValue) (xs : List (Span V)) (i : ℕ
 
   pub begins_after : {P : Type 0} (ss : List (Span VersionValue)) → spans_of value xs ≡ ss → (b : Bound V) → b ≡ x.lower
       → P ⊎ IsAfterPre (bound_of value b) → P ⊎ BeginsAfterPre ss
-  begins_after ss e b k h = elim h [
-    | inl found ↦ inl found
-    | inr after ↦
-        inr (subst BeginsAfterPre e (any_at (λ s. IsAfterPre s.lower) (subst (λ b. IsAfterPre (bound_of value b)) k after)))
-  ]
+  begins_after ss e b k h = grind (arith, any_at (λ s. IsAfterPre s.lower))
 
 -- what a list of spans of any kind finds is what the spans of its values find
 find-map : {A B : Type 0} (f : A → B) (p : B → Bool) (xs : List A) → find p (map f xs) ≡ option_map f (find (λ x. p (f x)) xs)
@@ -57,8 +54,7 @@ find-map f p [] = refl
 find-map f p (x ∷ xs) = grind (arith, find-map f p xs)
 
 map-twice : {A B C : Type 0} (f : B → C) (g : A → B) (r : Option A) → option_map (λ a. f (g a)) r ≡ option_map f (option_map g r)
-map-twice f g None = refl
-map-twice f g (Some a) = refl
+map-twice f g r = grind arith
 
 pub found_value : {A B C : Type 0} (f : B → C) (g : A → B) (p : C → Bool) (xs : List B) (r : Option A)
     → option_map g r ≡ find (λ x. p (f x)) xs → option_map (λ a. f (g a)) r ≡ find p (map f xs)
@@ -66,7 +62,7 @@ found_value f g p xs r e = map-twice f g r ∙ ap (option_map f) e ∙ sym (find
 
 find_all : {X : Type 0} (P : X → Type 0) (p : X → Bool) (xs : List X) → All P xs → IfSome (find p xs) P
 find_all P p [] h = tt
-find_all P p (x ∷ xs) h = cond_both (p x) (Some x) (find p xs) (λ o. IfSome o P) (λ _. All-head P x xs h) (λ _. find_all P p xs (All-tail P x xs h))
+find_all P p (x ∷ xs) h = cond_both (p x) (Some x) (find p xs) (λ o. IfSome o P) (λ _. h 0 x (omega arith)) (λ _. find_all P p xs (All-tail P x xs h))
 
 pub found_raisable : {A : Type 0} (g : A → Span VersionValue) (p : Span VersionValue → Bool) (ss : List (Span VersionValue)) (r : Option A)
     → option_map g r ≡ find p ss → All IsRaisable ss → IfSome r (λ a. Raisable (g a).lower)
@@ -108,10 +104,7 @@ module _ {V : Type 0} (value : V → VersionValue) (step : Option VersionValue �
   pub held_further : old ≡ fold step start (map (λ s. first_past s.lower) (spans_of value (take i xs)))
       → new ≡ step old (first_past (bound_of value x.lower))
       → new ≡ fold step start (map (λ s. first_past s.lower) (spans_of value (take (i + 1) xs)))
-  held_further e k = k ∙ ap (λ o. step o (first_past (bound_of value x.lower))) e
-      ∙ sym (ap (λ l. fold step start (map (λ s. first_past s.lower) l)) (map-further (span_of value) xs i x within at)
-      ∙ ap (fold step start) (map-append (λ s. first_past s.lower) (spans_of value (take i xs)) (span_of value x ∷ []))
-      ∙ fold-append step start (map (λ s. first_past s.lower) (spans_of value (take i xs))) (first_past (bound_of value x.lower) ∷ []))
+  held_further e k = grind (arith, nat_tests, common_steps, map-further, fold-append, map-append)
 
 -- ---- the least version of spans each of which begins with a version that it accepts
 
@@ -130,7 +123,7 @@ find_none p [] h = refl
 find_none p (x ∷ xs) h = grind (arith, find_none p xs)
 
 find_some : {X : Type 0} (p : X → Bool) (xs : List X) (o : Option X) → list_any p xs ≡ true → option_or (find p xs) o ≡ find p xs
-find_some p [] o h = absurd (false≢true h)
+find_some p [] o h = cc
 find_some p (x ∷ xs) o h = grind (arith, find_some p xs o)
 
 -- a start below all that was accepted so far is the least version
@@ -173,8 +166,7 @@ one_further value xs i x best w next within at h start e =
     grind (arith, nat_tests, map-further (span_of value) xs i x within at, step (spans_of value (take i xs)) best (span_of value x) w h start)
 
 pub on_none : {A : Type 0} {P : Type 0} (found : Option A) → P → IfNone found P
-on_none None h = h
-on_none (Some a) h = tt
+on_none found h = grind arith
 
 -- ---- when the search for a least version may need memory
 
@@ -204,7 +196,7 @@ trying_allocates ks ls h = grind (arith, nat_tests, common_steps, Any-one)
 -- with pre-releases included
 pub held_allocates : (ks : List (Span VersionValue)) → Finds true (λ v. accepts ks v true) ⊎ BeginsAfterPre ks
     → ((v : VersionValue) × (accepts ks v true ≡ true)) ⊎ BeginsAfterPre ks
-held_allocates ks h = elim h [ inl found ↦ inl (found.1, found.2) | inr begins ↦ inr begins ]
+held_allocates ks h = grind arith
 
 -- ---- where no bound has identifiers, nothing is allocated
 
@@ -213,18 +205,11 @@ named w = not (is_release w && is_empty w.build)
 
 passes-weaker : (test other : VersionValue → Bool) (b : Bound VersionValue) → ((w : VersionValue) → test w ≡ true → other w ≡ true)
     → passes test b ≡ true → passes other b ≡ true
-passes-weaker test other Unbounded weaker h = h
-passes-weaker test other (Before w) weaker h = weaker w h
-passes-weaker test other (After w) weaker h = weaker w h
+passes-weaker test other b weaker h = grind (arith, weaker)
 
 has_bound-weaker : (test other : VersionValue → Bool) (s : Span VersionValue) → ((w : VersionValue) → test w ≡ true → other w ≡ true)
     → has_bound test s ≡ true → has_bound other s ≡ true
-has_bound-weaker test other s weaker h = grind (
-  arith,
-  or_cases (passes test s.lower) (passes test s.upper) h,
-  passes-weaker test other s.lower weaker,
-  passes-weaker test other s.upper weaker,
-)
+has_bound-weaker test other s weaker h = grind (arith, passes-weaker test other)
 
 let_in_names : (s : Span VersionValue) (v : VersionValue) → lets_in s v ≡ true → is_release v ≡ false → has_bound named s ≡ true
 let_in_names s v h k = has_bound-weaker _ named s (λ w e. grind (arith, e)) (rw k at h)
@@ -238,14 +223,15 @@ accepted_names (s ∷ ss) v h k = elim (or_cases (holds precedence s v && lets_i
 ]
 
 after_names : (b : Bound VersionValue) → IsAfterPre b → passes named b ≡ true
-after_names b (v, e, k) = rw e (grind (arith, k))
+after_names b h = grind arith
 
 pub begins_names : (ss : List (Span VersionValue)) → BeginsAfterPre ss → names_identifiers ss ≡ true
-begins_names ss (i, s, within, at, h) = list_any_at (has_bound named) ss i s within (rw (at, after_names s.lower h) refl)
+begins_names ss (i, s, within, at, h) =
+    list_any_at (has_bound named) ss i s within (grind (arith, at, after_names s.lower h))
 
 pub ends_names : (ss : List (Span VersionValue)) → EndsAfterPre ss → names_identifiers ss ≡ true
-ends_names ss (i, s, within, at, h) = list_any_at (has_bound named) ss i s within
-    (rw (at, after_names s.upper h, or-true (passes named s.lower)) refl)
+ends_names ss (i, s, within, at, h) =
+    list_any_at (has_bound named) ss i s within (grind (arith, at, after_names s.upper h))
 
 built_names : (b : Bound VersionValue) → has_build b ≡ true → passes named b ≡ true
 built_names b h = passes-weaker (λ w. not (is_empty w.build)) named b (λ w e. grind (arith, e)) h
@@ -253,54 +239,44 @@ built_names b h = passes-weaker (λ w. not (is_empty w.build)) named b (λ w e. 
 -- the version of the first span that passes a test, where it has build metadata
 pub first_names : (p : Span VersionValue → Bool) (ss : List (Span VersionValue)) (s : Span VersionValue) → find p ss ≡ Some s
     → has_build s.lower ≡ true → names_identifiers ss ≡ true
-first_names p [] s e h = absurd (grind (arith, e))
+first_names p [] s e h = cc
 first_names p (x ∷ ss) s e h = grind (arith, built_names s.lower h, first_names p ss s)
 
 begins_built : (b : Bound VersionValue) (x : VersionValue) → begins_with b ≡ Some x → 0 < length x.build → has_build b ≡ true
-begins_built Unbounded x e h = absurd (grind (arith, e))
-begins_built (Before w) x e h = grind (arith, e, h)
-begins_built (After w) x e h = grind (arith, e, h)
+begins_built b x e h = grind arith
 
 pub build_names : (ss : List (Span VersionValue)) (v : VersionValue) → 0 < length (least_build ss v) → names_identifiers ss ≡ true
 build_names ss v h = of_first (find first ss) refl h
   where
     first : Span VersionValue → Bool
     first s = holds precedence s v && lets_in s v
-
-    of_start : (s : Span VersionValue) → find first ss ≡ Some s → (x : Option VersionValue) → begins_with s.lower ≡ x
-        → 0 < length (build_by x v) → names_identifiers ss ≡ true
-    of_start s e None b h = absurd (omega (arith, h))
-    of_start s e (Some x) b h = first_names first ss s e (begins_built s.lower x b (grind (arith, h)))
-
     of_first : (r : Option (Span VersionValue)) → find first ss ≡ r
         → 0 < length (build_by (option_and_then (λ s. begins_with s.lower) r) v)
         → names_identifiers ss ≡ true
     of_first None e h = absurd (omega (arith, h))
-    of_first (Some s) e h = of_start s e (begins_with s.lower) refl h
+    of_first (Some s) e h = grind (arith, first_names first ss s e, begins_built s.lower)
 
 -- the search for a least version
 pub one_names : (ks ls : List (Span VersionValue)) → MayAllocate true (ks ∷ []) ls
     → (names_identifiers ks ≡ true) ⊎ (names_identifiers ls ≡ true)
-one_names ks ls h = elim h [
-  | inl (c, v, w, k) ↦ inl (accepted_names ks v (grind (arith, common_steps, w)) k)
-  | inr (inl b) ↦ inl (begins_names ks (Any-one BeginsAfterPre ks b))
-  | inr (inr e) ↦ inr (ends_names ls e)
-]
+one_names ks ls h = grind (
+  arith,
+  common_steps,
+  accepted_names ks,
+  begins_names ks,
+  Any-one BeginsAfterPre ks,
+  ends_names ls,
+)
 
 pub alone_names : (ks : List (Span VersionValue)) → MayAllocate true (ks ∷ []) [] → names_identifiers ks ≡ true
-alone_names ks h = elim (one_names ks [] h) [ inl k ↦ k | inr l ↦ absurd (false≢true l) ]
+alone_names ks h = grind (arith, one_names ks [])
 
 -- a version that is accepted, with the build of its bound
 pub least_names : (ss : List (Span VersionValue)) (v : VersionValue) → accepts ss v false ≡ true → v.build ≡ least_build ss v
     → HasIdentifiers v → names_identifiers ss ≡ true
-least_names ss v h e has = elim has [
-  | inl pre ↦ accepted_names ss v h (grind (arith, pre))
-  | inr build ↦ build_names ss v (rw e at build)
-]
+least_names ss v h e has = grind (arith, accepted_names ss v, build_names ss v)
 
 -- what `map(Some)` returns of an error
 pub err-map : {A E : Type 0} (P : Type 0) (r : Result A E) (part : Result (Option A) E) → OnErr r P
     → MatchResult r (λ y. IsOkAnd part (λ p. p ≡ Some y)) (λ e. part ≡ Err e) → OnErr part P
-err-map P (Ok y) (Ok p) h k = tt
-err-map P (Ok y) (Err e) h k = absurd k
-err-map P (Err e) part h k = rw k h
+err-map P r part h k = grind arith

@@ -89,8 +89,9 @@ goes_behind p xs i x front old h at k e = grind (arith, nat_tests, common_steps)
 filter-parts : {A : Type 0} (p : A → Bool) (xs : List A) (i : ℕ) (x : A) → i < length xs → x ≡ get_or xs i x → p x ≡ true
     → (rest : List A) × (filter p xs ≡ filter p (take i xs) ++ x ∷ rest)
 filter-parts p [] i x h at k = absurd (omega (arith, h))
-filter-parts p (y ∷ ys) zero x h at k = (filter p ys, rw (sym at, k) refl)
-filter-parts {A = A} p (y ∷ ys) (suc i) x h at k = grind (arith, nat_tests, common_steps, filter-parts p ys i x (omega (arith, h)))
+filter-parts p (y ∷ ys) zero x h at k = (filter p ys, grind arith)
+filter-parts {A = A} p (y ∷ ys) (suc i) x h at k =
+    grind (arith, nat_tests, common_steps, filter-parts p ys i x)
 
 -- an element that stays takes memory by itself, or is not the first: so does the whole list that is made
 pub taken_at : {V : Type 0} (takes : V → Bool) (p : Span V → Bool) (xs front now : List (Span V)) (i : ℕ) (x : Span V)
@@ -147,12 +148,10 @@ used_same vs ss =
 
 -- a list that is not empty, and an empty one
 some_list : {A : Type 0} (r list all : List A) → Some r ≡ if_any list → (r ≡ list) × ((if is_empty list then all else list) ≡ r)
-some_list r [] all e = cc
-some_list r (x ∷ xs) all e = (cc, cc)
+some_list r list all e = grind arith
 
 no_list : {A : Type 0} (list all : List A) → None ≡ if_any list → (if is_empty list then all else list) ≡ all
-no_list [] all e = refl
-no_list (x ∷ xs) all e = cc
+no_list list all e = grind arith
 
 module _ {V W : Type 0} (value : V → VersionValue) (other : W → VersionValue) (ws : List W) (xs used : List (Span V))
     (ss : List (Span VersionValue)) (p : spans_of value xs ≡ ss) (e : used ≡ filter (is_used value other ws) xs) where
@@ -161,23 +160,23 @@ module _ {V W : Type 0} (value : V → VersionValue) (other : W → VersionValue
       (λ x. sym (list_any-map (λ v. admits (span_of value x) v) other ws)) xs ∙ ap (used_of (map other ws)) p)
 
   simplified-made : simplified (map other ws) ss ≡ (if is_empty (spans_of value used) then ss else spans_of value used)
-  simplified-made = simplified-is (map other ws) ss ∙ ap (λ l. if is_empty l then ss else l) (sym made)
+  simplified-made = grind (arith, simplified-is, made)
 
   pub used-valid : (limit : ℕ) → IsRange limit ss → list_all (is_range_span (limit + 1)) (spans_of value used) ≡ true
-  used-valid limit h = ap (list_all (is_range_span (limit + 1))) made ∙ all-filter _ _ ss h.each
+  used-valid limit h = grind (arith, made, all-filter, h.each)
 
   pub some-list : (r : List (Span VersionValue)) → Some r ≡ if_any (spans_of value used) → r ≡ simplified (map other ws) ss
-  some-list r k = sym (simplified-made ∙ (some_list r _ ss k).1)
+  some-list r k = grind (arith, simplified-made, some_list)
 
   pub some-same : (r : List (Span VersionValue)) → Some r ≡ if_any (spans_of value used)
       → All (λ v. accepts r v false ≡ accepts ss v false) (map other ws)
-  some-same r k = rw ((some_list r _ ss k).0, made) (used_same (map other ws) ss)
+  some-same r k = grind (arith, some_list r, made, used_same)
 
   pub some-shorter : (r : List (Span VersionValue)) → Some r ≡ if_any (spans_of value used) → length r ≤ length ss
   some-shorter r k = rw ((some_list r _ ss k).0, made) (omega (arith, length-filter_both _ (λ s. not (list_any (λ v. admits s v) (map other ws))) (λ s. refl) ss))
 
   pub none-list : None ≡ if_any (spans_of value used) → ss ≡ simplified (map other ws) ss
-  none-list k = sym (simplified-made ∙ no_list _ ss k)
+  none-list k = grind (arith, simplified-made, no_list)
 
   -- what takes memory is not empty
   pub used-taking : (takes : V → Bool) → AreTaking takes used → spans_of value used ≡ simplified (map other ws) ss
@@ -189,7 +188,7 @@ module _ {V W : Type 0} (value : V → VersionValue) (other : W → VersionValue
 
 -- a copy answers the same about every version
 pub copy-same : (r ss : List (Span VersionValue)) (vs : List VersionValue) → r ≡ ss → All (λ v. accepts r v false ≡ accepts ss v false) vs
-copy-same r ss vs e = All-weaker (Contains vs) (λ v. accepts r v false ≡ accepts ss v false) (λ v at i. accepts (e i) v false) vs (All-contains_itself vs)
+copy-same r ss vs e = grind (arith, All-contains_itself, All-weaker)
 
 pub copy-shorter : (r ss : List (Span VersionValue)) → r ≡ ss → length r ≤ length ss
 copy-shorter r ss e = omega (arith, ap length e)

@@ -1,4 +1,4 @@
-use Rattle.nodejs_semver.proofs.{Algebra.Differences.{along-gaps, minus-clips}, Common.{IfOk-weaker, arith, inl, inr, on_err, on_err_weaker, ◌∙◌}}
+use Rattle.nodejs_semver.proofs.{Algebra.Differences.{along-gaps, minus-clips}, Common.{IfOk-weaker, arith, inl, on_err_weaker, ◌∙◌}}
 use Rattle.semver_core.proofs.FlatMaps.{lone}
 use Rattle.nodejs_semver.proofs.range.interval_lists.differences.Goals as goal
 
@@ -8,16 +8,10 @@ clipped-requires g c = (
   rw c.deref.ensures (along-gaps g.met.V.Ord.total c.args.others.now c.in_ok-pieces.pieces.items c.in_ok-pieces.ensures),
 )
 
-pub returns-in_err-pieces-clause-memory : goal.returns-in_err-pieces-clause-memory
-returns-in_err-pieces-clause-memory g c = on_err c.from_residual.result (inr (λ e. omega arith))
-
 pub returns-clause-items : goal.returns-clause-items
 returns-clause-items g c = IfOk-weaker c.clipped.result _ _ (λ r e. rw c.deref.ensures at e
     ∙ minus-clips g.met.V.Ord.total c.args.these.now c.args.others.now c.in_ok-pieces.pieces.items c.requires c.in_ok-pieces.ensures)
     c.clipped.ensures
-
-pub returns-clause-memory : goal.returns-clause-memory
-returns-clause-memory g c = on_err _ (inr (λ e. omega arith))
 
 pub returns-then-others-eq1 : goal.returns-then-others-eq1
 returns-then-others-eq1 g c =
