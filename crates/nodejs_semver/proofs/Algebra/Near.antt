@@ -1,5 +1,5 @@
 -- Of spans that stand along the line, those that meet another one stand together.
-use Rattle.nodejs_semver.proofs.Common.{AllWithin, Bool, Cut, IsTotalOrder, List, Ordering, Span, Start, [], and_parts, all_weaker, any_under, between_from, gt_lt, is_le, list_all-append, tells, irreflexive, list_any-append, flat_map, flat_map-append, none_of, not_above, or_parts, option_to_list, subst, ap, ap₂, append-nil}
+use Rattle.nodejs_semver.proofs.Common.{AllWithin, Bool, Cut, IsTotalOrder, List, Ordering, Span, Start, [], all_weaker, any_under, between_from, gt_lt, is_le, list_all-append, tells, irreflexive, list_any-append, flat_map, flat_map-append, none_of, not_above, or_parts, option_to_list, subst, ap, ap₂, append-nil}
 use Rattle.nodejs_semver.proofs.Common.{arith, below_upto, between, cut_cmp, drop, false, get_or, is_interval, is_lt, is_some, is_some-interval, length}
 use Rattle.nodejs_semver.proofs.Common.{list_all, list_any, lower_cut, lt, meet, not, not-true, not_below, not_if, refl, suc, sym, take, take-append-drop}
 use Rattle.nodejs_semver.proofs.Common.{true, upper_cut, upto_below, zero, ℕ, ◌++◌, ◌+◌, ◌<◌, ◌||◌, ◌∙◌, ◌∷◌, ◌≡◌, ◌≤◌}

@@ -1,5 +1,5 @@
 -- Where the reader of numbers stops, the text is wrong there and has no version.
-use Rattle.nodejs_semver.proofs.Common.{Id, IfSome, IsAfterBlank, IsNumber, IsUtf8, List, None, Option, Some, VersionValue, [], and_parts, ap}
+use Rattle.nodejs_semver.proofs.Common.{Id, IfSome, IsAfterBlank, IsNumber, IsUtf8, List, None, Option, Some, VersionValue, [], ap}
 use Rattle.nodejs_semver.proofs.Common.{append_assoc, arith, begins, cases_Bool, drop, drop_all, drop_more, encode_utf8, eqb, eqb-true, false}
 use Rattle.nodejs_semver.proofs.Common.{is_ascii_digit, length, length-append, length-drop, list_all, nat_tests, refl, space_len, subst, suc, sym}
 use Rattle.nodejs_semver.proofs.Common.{take, take_rest, true, zero, ℕ, ◌*◌, ◌++◌, ◌+◌, ◌-◌, ◌<◌, ◌==◌, ◌↔◌, ◌∙◌, ◌∷◌, ◌≡◌, ◌≤◌}

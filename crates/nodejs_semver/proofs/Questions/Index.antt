@@ -81,11 +81,19 @@ module _ (n : VersionValue) (early : Entry → Bool) (q : Cut VersionValue → B
   front [] zero h k = refl
   front [] (suc p) h k = refl
   front (e ∷ es) zero h k =
-      grind (arith, k 0 e, front es zero (λ i d a b. absurd (omega arith))
-      (λ i d a b. k (suc i) d (omega arith) (omega arith)))
+      grind (
+        arith,
+        k 0 e,
+        front es zero (λ i d a b. absurd (omega arith))
+            (λ i d a b. k (suc i) d (omega arith) (omega arith)),
+      )
   front (e ∷ es) (suc p) h k =
-      grind (arith, h 0 e, front es p (λ i d a b. h (suc i) d (omega arith) (omega arith))
-      (λ i d a b. k (suc i) d (omega arith) (omega arith)))
+      grind (
+        arith,
+        h 0 e,
+        front es p (λ i d a b. h (suc i) d (omega arith) (omega arith))
+            (λ i d a b. k (suc i) d (omega arith) (omega arith)),
+      )
 
   -- where the search ends: k is the place before
   module _ (es : List Entry) (p k : ℕ) (o : AreInOrder es) (l : p ≤ length es) (at : p ≡ k + 1)

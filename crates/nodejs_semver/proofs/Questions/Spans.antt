@@ -1,5 +1,5 @@
 -- Spans of versions of any kind, read one by one as the spans of their values.
-use Rattle.nodejs_semver.proofs.Common.{All, All-get_or, All-head, All-tail, All-weaker, AllPass-from_list_all, Any, BeginsAfterPre, Bool, Bound}
+use Rattle.nodejs_semver.proofs.Common.{All, All-get_or, All-tail, All-weaker, AllPass-from_list_all, Any, BeginsAfterPre, Bool, Bound}
 use Rattle.nodejs_semver.proofs.Common.{IfNone, IfSome, IsAfterPre, IsLeastSoFar, IsRaisable, IsRange, List, MAX_SAFE_INTEGER, None, Option, Raisable}
 use Rattle.nodejs_semver.proofs.Common.{Some, Span, VersionValue, [], accepts, all_accept, and-true, and_parts, ap, arith, below_named, beside}
 use Rattle.nodejs_semver.proofs.Common.{beyond, bound_of, candidates, common_steps, cond_both, false, false≢true, find, find-append, first_so}
@@ -250,6 +250,7 @@ build_names ss v h = of_first (find first ss) refl h
   where
     first : Span VersionValue → Bool
     first s = holds precedence s v && lets_in s v
+
     of_first : (r : Option (Span VersionValue)) → find first ss ≡ r
         → 0 < length (build_by (option_and_then (λ s. begins_with s.lower) r) v)
         → names_identifiers ss ≡ true
