@@ -32,11 +32,8 @@ everything = record { lower = Unbounded; upper = Unbounded }
 open_upper : (b : Bound VersionValue) → greater_lower precedence b Unbounded ≡ b
 open_upper b = grind arith
 
-open_lower : (b : Bound VersionValue) → lesser_upper precedence b Unbounded ≡ b
-open_lower b = grind arith
-
 common-one : (s : Span VersionValue) → both s everything ≡ s
-common-one s = rw (open_upper s.lower, open_lower s.upper) refl
+common-one s = grind arith
 
 -- the bounds are of that version, whose numbers may be greater by one
 pub one_common : (include : Bool) (c : Comparator) (w : VersionValue) (text : List ℕ)
@@ -75,39 +72,22 @@ gt_trans : (a b c : Cut VersionValue) → is_gt (cut_cmp precedence a b) ≡ tru
     → is_gt (cut_cmp precedence a c) ≡ true
 gt_trans a b c p q = gt_lt precedence_total a c ∙ lt_trans precedence_total c b a (sym (gt_lt precedence_total b c) ∙ q) (sym (gt_lt precedence_total a b) ∙ p)
 
-upto_upto : (a b c : Cut VersionValue) → is_gt (cut_cmp precedence a b) ≡ false → is_gt (cut_cmp precedence b c) ≡ false
-    → is_gt (cut_cmp precedence a c) ≡ false
-upto_upto a b c p q = upto (cut_total precedence_total) a b c p q
-
--- of three bounds it does not matter which two are compared first
-greater_of_three : (b c d : Bound VersionValue)
-    → greater_lower precedence b (greater_lower precedence c d) ≡ greater_lower precedence (greater_lower precedence b c) d
-greater_of_three b c d = elim (cases_Bool (is_gt (cut_cmp precedence (lower_cut b) (lower_cut c)))) [
-  | inl p ↦ elim (cases_Bool (is_gt (cut_cmp precedence (lower_cut c) (lower_cut d)))) [
-    | inl q ↦ rw (q, p, gt_trans (lower_cut b) (lower_cut c) (lower_cut d) p q) refl
-    | inr q ↦ rw (q, p) refl
-  ]
-  | inr p ↦ elim (cases_Bool (is_gt (cut_cmp precedence (lower_cut c) (lower_cut d)))) [
-    | inl q ↦ rw (q, p, q) refl
-    | inr q ↦ rw (q, p, q, upto_upto (lower_cut b) (lower_cut c) (lower_cut d) p q) refl
-  ]
-]
-
-lesser_of_three : (b c d : Bound VersionValue)
-    → lesser_upper precedence b (lesser_upper precedence c d) ≡ lesser_upper precedence (lesser_upper precedence b c) d
-lesser_of_three b c d = elim (cases_Bool (is_gt (cut_cmp precedence (upper_cut b) (upper_cut c)))) [
-  | inl p ↦ elim (cases_Bool (is_gt (cut_cmp precedence (upper_cut c) (upper_cut d)))) [
-    | inl q ↦ rw (q, p, q, gt_trans (upper_cut b) (upper_cut c) (upper_cut d) p q) refl
-    | inr q ↦ rw (q, p, q) refl
-  ]
-  | inr p ↦ elim (cases_Bool (is_gt (cut_cmp precedence (upper_cut c) (upper_cut d)))) [
-    | inl q ↦ rw (q, p) refl
-    | inr q ↦ rw (q, p, upto_upto (upper_cut b) (upper_cut c) (upper_cut d) p q) refl
-  ]
-]
+-- of three bounds it does not matter which two are compared first, be it for the greater one or for the lesser one
+of_three : {A B : Type 0} (is_above : B → B → Bool) (cut : A → B) → ((x y z : B) → is_above x y ≡ true → is_above y z ≡ true → is_above x z ≡ true)
+    → ((x y z : B) → is_above x y ≡ false → is_above y z ≡ false → is_above x z ≡ false) → (b c d : A)
+    → (let greater = λ (x y : A). if is_above (cut x) (cut y) then x else y in greater b (greater c d) ≡ greater (greater b c) d)
+    × (let lesser = λ (x y : A). if is_above (cut x) (cut y) then y else x in lesser b (lesser c d) ≡ lesser (lesser b c) d)
+of_three is_above cut f g b c d =
+    let on = f (cut b) (cut c) (cut d) in
+    let off = g (cut b) (cut c) (cut d) in
+    (grind arith, grind arith)
 
 both-both : (s t u : Span VersionValue) → both s (both t u) ≡ both (both s t) u
-both-both s t u = rw (greater_of_three s.lower t.lower u.lower, lesser_of_three s.upper t.upper u.upper) refl
+both-both s t u =
+    let is_above = λ (x y : Cut VersionValue). is_gt (cut_cmp precedence x y) in
+    let lower = of_three is_above lower_cut gt_trans (upto (cut_total precedence_total)) s.lower t.lower u.lower in
+    let upper = of_three is_above upper_cut gt_trans (upto (cut_total precedence_total)) s.upper t.upper u.upper in
+    rw (lower.0, upper.1) refl
 
 common-append : (ss ts : List (Span VersionValue)) → common (ss ++ ts) ≡ both (common ss) (common ts)
 common-append [] ts = grind arith
