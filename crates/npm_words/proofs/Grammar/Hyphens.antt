@@ -1,24 +1,25 @@
 -- Hyphen ranges of node-semver's range texts: the functions that read them find exactly what the statement has, and the code those whose
 -- numbers that count are up to the limit.
-use Rattle.npm_words.proofs.Common.{AreMarks, AreWords, Bool, Comparison, Ended, Id, IsEnd, IsHyphen, IsPlaces, IsStrictBuild, IsUtf8, IsWord, List, empty_is}
-use Rattle.npm_words.proofs.Common.{MAX_SAFE_INTEGER, None, Option, Some, VersionValue, [], after_byte, after_ends, all_weaker, and_parts, ap}
-use Rattle.npm_words.proofs.Common.{append_assoc, ap₂, are_marks, are_normal, are_whole_marks, arith, begins, bind_some, capped_in, capped_partial}
-use Rattle.npm_words.proofs.Common.{cases_Bool, common_steps, compared, cond_some, drop, drop_at, drop_ends, drop_spaces, encode_utf8}
-use Rattle.npm_words.proofs.Common.{encode_utf8_all, end_front, ended_as, false, first_as, get_or, hyphen_ends, hyphen_of, if◌then◌else◌, inl, inr}
-use Rattle.npm_words.proofs.Common.{is_empty, is_free, is_free_lower, is_free_upper, is_mark, is_right, is_right_end, is_short, is_short_word}
-use Rattle.npm_words.proofs.Common.{is_valid, is_whitespace, last_end, last_marks, le-ltb, len_utf8, len_utf8_bounds, length, length-append}
-use Rattle.npm_words.proofs.Common.{length-drop, length-encode, list_all, list_all-append, lower_of, lt-ltb, nat_tests, no_build, not, plus}
-use Rattle.npm_words.proofs.Common.{prefix_len, refl, same_Some, space_len, space_len-nil, subst, suc, sym, take, true, upper_of, zero, ℕ, ◌&&◌, ◌++◌}
-use Rattle.npm_words.proofs.{Common.{◌+◌, ◌-◌, ◌<◌, ◌==◌, ◌>>?◌, ◌||◌, ◌∙◌, ◌∷◌, ◌≡◌, ◌≤◌}, Grammar.Characters.{is_signal, sign-signal}}
-use Rattle.npm_words.proofs.Grammar.{InsideIds.run-exact, PartialLaw.{boundary-quiet, front-text, places-found, places-read}, Printed.{capped-valid, lower-invalid}}
-use Rattle.npm_words.proofs.Grammar.{Printed.{upper-invalid, valid-same}, Signs.marks-all, Words.{marks-dropped, places-begin}}
+use Rattle.npm_words.proofs.Common.{AreMarks, AreWords, Bool, Comparison, Ended, Id, IsEnd, IsHyphen, IsPlaces, IsStrictBuild, IsUtf8, IsWord, List}
+use Rattle.npm_words.proofs.Common.{MAX_SAFE_INTEGER, Option, Some, VersionValue, [], after_byte, after_ends, all_weaker, and_parts, ap, append_assoc}
+use Rattle.npm_words.proofs.Common.{ap₂, are_marks, are_normal, are_whole_marks, arith, begins, bind_some, capped_in, capped_partial, cases_Bool}
+use Rattle.npm_words.proofs.Common.{common_steps, compared, cond_some, drop, drop_at, drop_ends, drop_spaces, empty_is, encode_utf8, encode_utf8_all}
+use Rattle.npm_words.proofs.Common.{end_front, ended_as, false, first_as, get_or, hyphen_ends, hyphen_of, if◌then◌else◌, inl, inr, is_empty, is_free}
+use Rattle.npm_words.proofs.Common.{is_free_lower, is_free_upper, is_mark, is_right, is_right_end, is_short, is_short_word, is_valid, is_whitespace}
+use Rattle.npm_words.proofs.Common.{last_end, last_marks, le-ltb, len_utf8, len_utf8_bounds, length, length-append, length-drop, length-encode}
+use Rattle.npm_words.proofs.Common.{list_all, list_all-append, lower_of, lt-ltb, nat_tests, no_build, not, plus, prefix_len, refl, same_Some}
+use Rattle.npm_words.proofs.Common.{space_len, space_len-nil, subst, suc, sym, take, true, upper_of, zero, ℕ, ◌&&◌, ◌++◌, ◌+◌, ◌-◌, ◌<◌, ◌==◌, ◌>>?◌}
+use Rattle.npm_words.proofs.{Common.{◌||◌, ◌∙◌, ◌∷◌, ◌≡◌, ◌≤◌}, Grammar.{Characters.{is_signal, sign-signal}, PartialLaw.boundary-quiet}}
+use Rattle.npm_words.proofs.Grammar.{PartialLaw.{front-text, places-found, places-read}, Printed.{capped-valid, lower-invalid, upper-invalid}}
+use Rattle.npm_words.proofs.Grammar.{Printed.valid-same, Runs.run-exact, Signs.marks-all, Words.{marks-dropped, places-begin}}
 use Rattle.npm_words.specs.{Grammar.IsPreRelease, Internal.{Reads.valid_one, Words.{after_dash, end_len, places_front}}, RangeText.{formed, ignored}}
 use Rattle.{npm_words.specs.{RangeText.more, Table.{Partial, whole}}, semver_core.proofs.{Normal.identifiers-normal, Reading.Boundaries.blank-len}}
 use Rattle.semver_core.proofs.Reading.Boundaries.{boundary-of, boundary-utf8, byte-is, front-dark, skips-of, skips-utf8, some_space-is, tail-utf8}
 use Rattle.semver_core.proofs.{Reading.Bytes.{all-join, begins_component, is_component_byte, is_solid}, Text.SpaceLaw.front_is_first_character}
 use Rattle.semver_core.specs.{Internal.Boundaries.after_some_space, Printing.RoundTrip.is_normal, Text.Boundaries.SkipsBlank}
-use Rattle.{semver_core.specs.Text.{Characters.BeginsBlank, Comparators.equal}, std.proofs.lemmas.List.{get_or-drop, get_or-reverse}}
-use Rattle.std.{proofs.lemmas.List.Sums.{list_all-from_AllPass, prefix_len_passes, suffix_len-le-length}, specs.{List.suffix_len, Prelude.reverse}}
+use Rattle.{semver_core.specs.Text.{Characters.BeginsBlank, Comparators.equal}, std.proofs.lemmas.List.Sums.list_all-from_AllPass}
+use Rattle.std.{proofs.lemmas.List.{Sums.{prefix_len_passes, suffix_len-le-length}, get_or-drop, get_or-reverse}, specs.List.suffix_len}
+use Rattle.std.specs.Prelude.{reverse}
 
 -- ---- marks and whitespace at the front
 
@@ -208,13 +209,7 @@ hyphen-capped loose include a b =
     (capped-valid lower (λ p. lower-invalid _ include p a.2) a.1, λ h. ap lower (valid-same lower (λ p. lower-invalid _ include p a.2) a.1 h)) in
     let up : AreValidAs (upper (capped_partial b.1)) (upper b.1) =
     (capped-valid upper (λ p. upper-invalid _ include p b.2) b.1, λ h. ap upper (valid-same upper (λ p. upper-invalid _ include p b.2) b.1 h)) in
-    rw ((free-capped include a.1).0, (free-capped include b.1).1)
-    (when (is_right loose is_free_lower a && is_right loose (is_free_upper include) b) _ _ (joined-valid _ _ _ _ low up))
-  where
-    when : (r : Bool) (x y : Bool × List Comparison) → valid_one x ≡ valid_one y
-        → ((if r then Some x else None) >>? valid_one) ≡ ((if r then Some y else None) >>? valid_one)
-    when true x y h = h
-    when false x y h = refl
+    rw ((free-capped include a.1).0, (free-capped include b.1).1) (grind (arith, joined-valid _ _ _ _ low up))
 
 -- ---- the identifiers are in normal form
 

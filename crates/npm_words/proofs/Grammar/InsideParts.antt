@@ -5,14 +5,13 @@ use Rattle.npm_words.proofs.Common.{begins_wildcard, build_front, cases_Bool, da
 use Rattle.npm_words.proofs.Common.{if◌then◌else◌, inl, inr, is_ascii_digit, is_none, is_strict_list, length, length-append, length-drop, list_all}
 use Rattle.npm_words.proofs.Common.{listed, nat_le, nat_lt, nat_tests, no_build, no_pre_release, not, one, pieces, plus, prefix_len, refl, subst, suc}
 use Rattle.npm_words.proofs.Common.{sym, take, take-append-drop, three, true, two, zero, ℕ, ◌&&◌, ◌++◌, ◌<◌, ◌==◌, ◌||◌, ◌∙◌, ◌∷◌, ◌≡◌, ◌≤◌, ◌⊎◌}
-use Rattle.npm_words.proofs.Grammar.InsideIds.{are_good, drop-le, ids-begin, ids-exact, ids-found, ids-le, ids-max, is_good, run-le}
-use Rattle.npm_words.{proofs.Grammar.{PartialLaw.digits-of, VersionLaw.build-found}, specs.Grammar.{IsPreRelease, written}}
-use Rattle.npm_words.specs.Internal.Inside.{begins_dotted, behind_ids, behind_partial, behind_place, behind_places, behind_pre_release}
-use Rattle.npm_words.specs.{Internal.Inside.{behind_qualifier, capped, is_single, most, starts}, Malformed.{IsInside, are_found, partial, version}}
-use Rattle.{npm_words.specs.Partials.{any, number}, semver_core.proofs.Reading.{IdentifierLists.{written-begins, written-le}, Numbers.digits-taken}}
-use Rattle.semver_core.{proofs.Reading.Qualifiers.{build_front-le, byte-begins}, specs.Text.{Characters.is_identifier_char, Identifiers.goes_on}}
-use Rattle.{semver_core.specs.Text.Identifiers.is_identifier, std.proofs.lemmas.List.{Sums.prefix_len-le-length, length-take-le}}
-use Rattle.std.specs.Char.{is_ascii_alphabetic}
+use Rattle.npm_words.proofs.Grammar.{InsideIds.{Ends, are_good, drop-le, ids-begin, ids-ends, ids-found, ids-le, is_good}, PartialLaw.digits-of}
+use Rattle.npm_words.{proofs.Grammar.{Runs.run-many, VersionLaw.build-found}, specs.{Grammar.{IsPreRelease, written}, Internal.Inside.begins_dotted}}
+use Rattle.npm_words.specs.Internal.Inside.{behind_ids, behind_partial, behind_place, behind_places, behind_pre_release, behind_qualifier, capped}
+use Rattle.npm_words.specs.{Internal.Inside.{is_single, most, starts}, Malformed.{IsInside, are_found, partial, version}, Partials.{any, number}}
+use Rattle.semver_core.proofs.Reading.{IdentifierLists.{written-begins, written-le}, Numbers.digits-taken, Qualifiers.{build_front-le, byte-begins}}
+use Rattle.semver_core.specs.Text.{Characters.is_identifier_char, Identifiers.{goes_on, is_identifier}}
+use Rattle.std.{proofs.lemmas.List.{Sums.prefix_len-le-length, length-take-le}, specs.Char.is_ascii_alphabetic}
 
 -- ---- which identifiers may stand there
 
@@ -100,14 +99,6 @@ unfolding behind_pre_release
 none-read strict [] g = rw (and-false (not strict)) refl
 none-read strict (c ∷ rest) g = grind (arith, nat_tests)
 
--- what is left is no longer than this, and all of it where no identifiers go on there
-record Ends (rest left : List ℕ) : Type 0 where
-  le : length left ≤ length rest
-  exact : goes_on rest ≡ false → left ≡ rest
-
-ids-end : (strict : Bool) (ids rest : List ℕ) → are_good strict ids ≡ true → Ends rest (behind_ids (length (ids ++ rest)) strict (ids ++ rest))
-ids-end strict ids rest g = record { le = ids-max strict ids rest g; exact = ids-exact strict ids rest g }
-
 -- without `-` begins one that begins with a letter, or with a `-` that no identifier follows
 bare-end : (ids rest : List ℕ) → begins_undashed false ids ≡ true → begins is_ascii_digit ids ≡ false → are_good false ids ≡ true
     → Ends rest (behind_pre_release false (ids ++ rest))
@@ -119,19 +110,19 @@ bare-end (c ∷ []) rest u q g =
       | inl dash ↦
           let p = and_parts (c == 45) (begins_identifier rest) dash in
           rw dash (record { le = ids-le (length rest) false rest; exact = λ e. cc (p.1, quiet-end rest e) })
-      | inr other ↦ rw (other, bare) (ids-end false (c ∷ []) rest g)
+      | inr other ↦ rw (other, bare) (ids-ends false (c ∷ []) rest g)
     ]
 bare-end (c ∷ d ∷ ids) rest u q g =
     let other : ((c == 45) && is_identifier_char d) ≡ false = grind (arith, nat_tests) in
     let bare : (is_ascii_alphabetic c || (c == 45)) ≡ true = grind arith in
-    rw (other, bare) (ids-end false (c ∷ (d ∷ ids)) rest g)
+    rw (other, bare) (ids-ends false (c ∷ (d ∷ ids)) rest g)
 
 pre-end : (strict wild : Bool) (pre rest : List ℕ) (l : List Id) → IsPreRelease (not strict) (strict && wild) (fits strict) pre l
     → begins is_ascii_digit pre ≡ false → Ends rest (behind_pre_release strict (pre ++ rest))
 unfolding behind_pre_release
 pre-end strict wild pre rest l no_pre_release q = record { le = pre-le strict rest; exact = none-read strict rest }
 pre-end strict wild pre rest l (dashed t list i h) q =
-    let g = fits-good strict t list i h in rw (ids-begin strict t rest g) (ids-end strict t rest g)
+    let g = fits-good strict t list i h in rw (ids-begin strict t rest g) (ids-ends strict t rest g)
 pre-end true wild pre rest l (bare t list i h x) q = cc x
 pre-end false wild pre rest l (bare t list i h x) q = bare-end t rest x q (fits-good false t list i h)
 
@@ -157,7 +148,7 @@ run-placed : (strict : Bool) (c : ℕ) (run : List ℕ) → list_all is_ascii_di
     → nat_le (length (c ∷ run)) (most strict) ≡ true → Placed strict (c ∷ run)
 unfolding behind_place
 run-placed strict c run each plain short = record {
-  max = λ rest. rw plain (drop-le _ (c ∷ run) rest (capped-is _ _ (run-le is_ascii_digit (c ∷ run) rest each) short).0);
+  max = λ rest. rw plain (drop-le _ (c ∷ run) rest (capped-is _ _ (omega (arith, run-many is_ascii_digit (c ∷ run) rest each)) short).0);
   exact = λ rest stop. rw (plain, digits-taken (c ∷ run) rest each stop, (capped-is _ (length (c ∷ run)) (omega arith) short).1)
       (drop_at (c ∷ run) rest (length (c ∷ run)) refl);
   begin = λ rest. rw (and_parts (is_ascii_digit c) (list_all is_ascii_digit run) each).0 refl;

@@ -5,14 +5,15 @@ use Rattle.npm_words.proofs.Common.{and-false, and_parts, ap, append-nil, append
 use Rattle.npm_words.proofs.Common.{bind_some, build_front, capped_one, capped_partial, cases_Bool, common_steps, digits_value, dotted_patch}
 use Rattle.npm_words.proofs.Common.{dotted_place, drop, drop-append-add, drop_at, false, first_as, has_leading_zero, if◌then◌else◌, inl, inr}
 use Rattle.npm_words.proofs.Common.{is_ascii_digit, is_boundary, is_empty, is_none, is_spelled, length, length-append, length-prefix_len, list_all}
-use Rattle.npm_words.proofs.Common.{listed, may_stand, nat_le, nat_lt, nat_tests, not, number_front, number_of, number_with, one, partial_of, patch_place}
-use Rattle.npm_words.proofs.Common.{place_front, pre_front, pre_release_with, prefix_len, qualified_partial, refl, run_place, same_Some, subst, suc}
-use Rattle.npm_words.proofs.Common.{sym, take, take-append-drop, take_at, take_rest, take_while, three, true, two, zero, ℕ, ◌&&◌, ◌++◌, ◌+◌, ◌-◌, ◌<◌}
-use Rattle.npm_words.proofs.{Common.{◌>>?◌, ◌||◌, ◌∙◌, ◌∷◌, ◌≡◌, ◌≤◌}, Grammar.VersionLaw.{At, Ends, Follows, build-ends, build-found, build-taken}}
-use Rattle.npm_words.proofs.Grammar.VersionLaw.{dotted-found, number-short, padded-same, pre-follows, pre-found, pre-taken, strict_is}
-use Rattle.npm_words.specs.{Grammar.IsPreRelease, Internal.Words.{are_short_builds, is_over, places_front, third_front}, Table.Partial}
-use Rattle.semver_core.proofs.Reading.{Bytes.{is_solid, solid-dark}, Numbers.{digits-taken, number-found, number-is, number-no_wildcard}}
-use Rattle.{semver_core.proofs.Reading.Steps.option-cases, std.proofs.lemmas.List.Sums.{prefix_len-drop_all, prefix_len-drop_no, prefix_len-drop_yes}}
+use Rattle.npm_words.proofs.Common.{listed, may_stand, nat_le, nat_lt, nat_tests, not, number_front, number_of, number_with, one, partial_of}
+use Rattle.npm_words.proofs.Common.{patch_place, place_front, pre_front, pre_release_with, prefix_len, qualified_partial, refl, run_place, same_Some}
+use Rattle.npm_words.proofs.Common.{subst, suc, sym, take, take-append-drop, take_at, take_rest, take_while, three, true, two, zero, ℕ, ◌&&◌, ◌++◌}
+use Rattle.npm_words.proofs.{Common.{◌+◌, ◌-◌, ◌<◌, ◌>>?◌, ◌||◌, ◌∙◌, ◌∷◌, ◌≡◌, ◌≤◌}, Grammar.{Runs.run-many, VersionLaw.{At, Ends, Follows}}}
+use Rattle.npm_words.proofs.Grammar.VersionLaw.{build-ends, build-found, build-taken, dotted-found, number-short, padded-same, pre-follows, pre-found}
+use Rattle.npm_words.{proofs.Grammar.VersionLaw.{pre-taken, strict_is}, specs.{Grammar.IsPreRelease, Internal.Words.{are_short_builds, is_over}}}
+use Rattle.{npm_words.specs.{Internal.Words.{places_front, third_front}, Table.Partial}, semver_core.proofs.Reading.Bytes.{is_solid, solid-dark}}
+use Rattle.semver_core.proofs.Reading.{Numbers.{digits-taken, number-found, number-is, number-no_wildcard}, Steps.option-cases}
+use Rattle.std.proofs.lemmas.List.Sums.{prefix_len-drop_all, prefix_len-drop_no, prefix_len-drop_yes}
 use Rattle.npm_words.specs.Partials as Text
 
 pub ruleset prefix_steps = (prefix_len-drop_all, prefix_len-drop_no, prefix_len-drop_yes)
@@ -40,11 +41,6 @@ pub digits_all : (text : List ℕ) → nat_lt (prefix_len is_ascii_digit text) (
 digits_all [] = refl
 digits_all (c ∷ text) = grind (arith, nat_tests, common_steps, digits_all text)
 
-pub digits-many_on : (digits rest : List ℕ) → list_all is_ascii_digit digits ≡ true
-    → prefix_len is_ascii_digit (digits ++ rest) ≡ length digits + prefix_len is_ascii_digit rest
-digits-many_on [] rest h = omega arith
-digits-many_on (c ∷ digits) rest h = grind (arith, nat_tests, common_steps, and_parts, digits-many_on digits rest)
-
 -- ---- what is written is read
 
 place-read : (loose : Bool) (x more : List ℕ) (a : Option ℕ) → IsPlace loose x a → begins is_ascii_digit more ≡ false
@@ -58,16 +54,8 @@ place-read loose x more a (Text.number digits n k spelled short) stop =
 pub patch-exact : (loose : Bool) (run rest : List ℕ) → list_all is_ascii_digit run ≡ true → Follows loose rest
     → (if loose && begins_byte 46 (drop (prefix_len is_ascii_digit (run ++ rest)) (run ++ rest)) then prefix_len is_ascii_digit (run ++ rest) - 1
     else prefix_len is_ascii_digit (run ++ rest)) ≡ length run
-patch-exact loose run rest each f = elim (cases_Bool (begins is_ascii_digit rest)) [
-  | inr stop ↦
-      let dot : begins_byte 46 rest ≡ false = grind (arith, nat_tests) in
-      rw (digits-taken run rest each stop, drop_at run rest (length run) refl, dot, and-false loose) refl
-  | inl digit ↦
-      let free : loose ≡ true = grind (arith, nat_tests) in
-      let dot : begins_byte 46 (drop 1 rest) ≡ true = grind (arith, nat_tests) in
-      let one : prefix_len is_ascii_digit rest ≡ 1 = grind (arith, nat_tests) in
-      rw (digits-many_on run rest each, one, drop-append-add, free, dot) (omega arith)
-]
+patch-exact loose run rest each f =
+    rw (run-many is_ascii_digit run rest each, drop-append-add) (grind (arith, nat_tests, common_steps))
 
 run-read : (loose : Bool) (run rest : List ℕ) (n : ℕ) → IsNumber n run n → is_spelled loose run ≡ true → (loose || nat_le (length run) 257) ≡ true
     → run_place loose run rest ≡ Some (Some n, rest)

@@ -7,8 +7,8 @@ use Rattle.npm_words.proofs.Common.{is_short_word, length, length-append, list_a
 use Rattle.npm_words.proofs.Common.{signed_word, space_len, subst, suc, sym, take, take-append-drop, take_at, take_rest, true, word, words_within}
 use Rattle.npm_words.proofs.{Common.{zero, ℕ, ◌&&◌, ◌++◌, ◌-◌, ◌<◌, ◌==◌, ◌>>?◌, ◌||◌, ◌∙◌, ◌∷◌, ◌≡◌, ◌≤◌}, Grammar.Ignored.ignored-found}
 use Rattle.npm_words.proofs.Grammar.{Ignored.ignored-read, PartialLaw.{boundary-quiet, digits-begin, front-text, places-found, places-read}}
-use Rattle.npm_words.{proofs.Grammar.Signs.{blank-cases, is_open, marks-all, open-first, sign-found, sign-taken}, specs.Internal.Words.ended_word}
-use Rattle.npm_words.specs.{Internal.Words.{places_front, signed_or}, RangeText.{formed, ignored, more}, Table.{Partial, Sign, table}}
+use Rattle.npm_words.proofs.Grammar.{Runs.{run-many, run-none}, Signs.{blank-cases, is_open, marks-all, open-first, sign-found, sign-taken}}
+use Rattle.npm_words.specs.{Internal.Words.{ended_word, places_front, signed_or}, RangeText.{formed, ignored, more}, Table.{Partial, Sign, table}}
 use Rattle.semver_core.proofs.Reading.Boundaries.{boundary-of, boundary-utf8, skips-is, skips-of, skips-utf8, spaces-le, suffix-boundary}
 use Rattle.semver_core.proofs.Reading.{Bytes.{begins-on, begins-some, begins_component, is_component_byte}, Steps.option-cases}
 use Rattle.semver_core.specs.Text.Boundaries.{SkipsBlank}
@@ -22,8 +22,7 @@ pub places-begin : (loose : Bool) (x rest : List ℕ) (p : Partial) → IsPlaces
 places-begin loose x rest p h = grind (arith, nat_tests, common_steps, begins-on, is_component_byte, place-begins)
 
 pub marks-counted : (marks u : List ℕ) → list_all is_mark marks ≡ true → begins_component u ≡ true → marks_len (marks ++ u) ≡ length marks
-marks-counted [] u h k = grind (arith, nat_tests)
-marks-counted (b ∷ marks) u h k = grind (arith, nat_tests, common_steps, and_parts, marks-counted marks u)
+marks-counted marks u h k = let none = run-none is_mark u (grind (arith, nat_tests)) in omega (arith, run-many is_mark marks u h)
 
 -- the partial behind marks
 pub marks-dropped : (loose : Bool) (marks x : List ℕ) (p : Partial) → list_all is_mark marks ≡ true → IsPlaces loose x p

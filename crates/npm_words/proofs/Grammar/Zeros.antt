@@ -2,10 +2,10 @@
 use Rattle.npm_words.proofs.Common.{Bool, Comparison, Id, IsNumber, IsPlace, IsPlaces, IsStrictBuild, List, None, Numbers, Option, Some, VersionValue}
 use Rattle.npm_words.proofs.Common.{[], and_parts, ap, append-nil, arith, at_least, begins, bytes_eq, bytes_eq-Decides, cases_Bool, codes}
 use Rattle.npm_words.proofs.Common.{common_steps, compared, digits_grow, drop, false, first, from, has_leading_zero, if◌then◌else◌, inl, inr}
-use Rattle.npm_words.proofs.Common.{is_ascii_digit, is_release, length, list_all, major, nat_tests, not, partial_of, prefix_len, refl, subst, suc}
-use Rattle.npm_words.proofs.Common.{sym, take, take_at, take_rest, take_while, true, under, whole, wildcard, ℕ, ◌&&◌, ◌++◌, ◌+◌, ◌-◌, ◌==◌, ◌∙◌, ◌∷◌}
-use Rattle.npm_words.{proofs.Common.◌≡◌, specs.{Grammar.IsPreRelease, Internal.Parts.{AreZeros, is_padded}, Table.{Partial, Sign, caret, next}}}
-use Rattle.{npm_words.specs.Table.{table, tilde, unbuilt, written_zeros, zeros}, semver_core.proofs.Reading.Numbers.digits-taken}
+use Rattle.npm_words.proofs.Common.{is_ascii_digit, is_release, length, list_all, major, nat_tests, not, partial_of, prefix_len, refl, subst, sym}
+use Rattle.npm_words.proofs.Common.{take, take_at, take_rest, take_while, true, under, whole, wildcard, ℕ, ◌&&◌, ◌++◌, ◌+◌, ◌-◌, ◌==◌, ◌∙◌, ◌∷◌, ◌≡◌}
+use Rattle.npm_words.{proofs.Grammar.Runs.run-behind, specs.{Grammar.IsPreRelease, Internal.Parts.{AreZeros, is_padded}, Table.{Partial, Sign}}}
+use Rattle.{npm_words.specs.Table.{caret, next, table, tilde, unbuilt, written_zeros, zeros}, semver_core.proofs.Reading.Numbers.digits-taken}
 use Rattle.{semver_core.specs.Text.Comparators.equal, std.proofs.lemmas.{Bool.le-ltb, List.drop-drop}}
 use Rattle.npm_words.specs.Partials as Text
 
@@ -31,16 +31,9 @@ pub zeros_taken : (text numbers : List ℕ) (at : ℕ) → at ≡ prefix_len no_
     → written_zeros text ≡ counted (zero_at numbers) (zero_at (drop 2 numbers)) (zero_at (drop 2 (drop 2 numbers)))
 zeros_taken text numbers at e f = zeros_counted text numbers (f ∙ take_rest text at ∙ ap (λ n. drop n text) e)
 
-marks-dropped : (marks x : List ℕ) → list_all no_digit marks ≡ true → drop (prefix_len no_digit (marks ++ x)) (marks ++ x) ≡ drop (prefix_len no_digit x) x
-marks-dropped [] x h = refl
-marks-dropped (b ∷ marks) x h =
-    let p = and_parts (no_digit b) (list_all no_digit marks) h in
-    let more : 1 + prefix_len no_digit (marks ++ x) ≡ suc (prefix_len no_digit (marks ++ x)) = omega arith in
-    rw (p.0, more) (marks-dropped marks x p.1)
-
 -- marks in front do not count
 pub zeros-marked : (marks x : List ℕ) → list_all no_digit marks ≡ true → written_zeros (marks ++ x) ≡ written_zeros x
-zeros-marked marks x h = zeros_counted (marks ++ x) _ (sym (marks-dropped marks x h)) ∙ sym (zeros_counted x _ refl)
+zeros-marked marks x h = zeros_counted (marks ++ x) _ (sym (run-behind no_digit marks x h)) ∙ sym (zeros_counted x _ refl)
 
 -- ---- strictly zero is written `0`
 
@@ -71,12 +64,7 @@ place-first x more n (Text.number digits m k spelled short) = grind (arith, nat_
 zeros-behind : (x rest : List ℕ) (n : ℕ) → IsPlace false x (Some n) → begins is_ascii_digit rest ≡ false
     → written_zeros (x ++ rest) ≡ counted (n == 0) (zero_at (drop 1 rest)) (zero_at (drop 3 rest))
 zeros-behind x rest n h stop =
-    zeros_counted (x ++ rest) (x ++ rest) (sym (place-first x rest n h)) ∙ elim (cases_Bool (n == 0)) [
-      | inr some ↦ rw (zero-place x rest (Some n) h stop, some) refl
-      | inl zero ↦
-          let e : x ≡ codes "0" = zero-alone x n h zero in
-          rw (zero-place x rest (Some n) h stop, zero, e, drop-drop 2 2 (48 ∷ rest)) refl
-    ]
+    grind (arith, zeros_counted (x ++ rest) (x ++ rest), place-first x rest n h, zero-place x rest (Some n) h stop, zero-alone x n h, drop-drop 2 2 (48 ∷ rest))
 
 zeros_of : Option ℕ → Option ℕ → Option ℕ → ℕ
 zeros_of a b c = counted (is_zero_place a) (is_zero_place b) (is_zero_place c)
