@@ -10,7 +10,7 @@ use Rattle.npm_words.{proofs.Grammar.{Runs.run-many, VersionLaw.build-found}, sp
 use Rattle.npm_words.specs.Internal.Inside.{behind_ids, behind_partial, behind_place, behind_places, behind_pre_release, behind_qualifier, capped}
 use Rattle.npm_words.specs.{Internal.Inside.{is_single, most, starts}, Malformed.{IsInside, are_found, partial, version}, Partials.{any, number}}
 use Rattle.semver_core.proofs.Reading.{IdentifierLists.{written-begins, written-le}, Numbers.digits-taken, Qualifiers.{build_front-le, byte-begins}}
-use Rattle.semver_core.specs.Text.{Characters.is_identifier_char, Identifiers.{goes_on, is_identifier}}
+use Rattle.semver_core.specs.Text.{Identifiers.{goes_on, is_identifier}}
 use Rattle.std.{proofs.lemmas.List.{Sums.prefix_len-le-length, length-take-le}, specs.Char.is_ascii_alphabetic}
 
 -- ---- which identifiers may stand there
@@ -24,11 +24,7 @@ each-good : (strict : Bool) (ps : List (List ℕ)) → list_all (is_good strict)
     && ((not strict || list_all (λ id. not (list_all is_ascii_digit id && has_leading_zero id)) ps)
     && list_all (λ id. list_all is_ascii_digit id || not (begins is_ascii_digit id)) ps))
 each-good strict [] = grind arith
-each-good strict (p ∷ ps) = rw (each-good strict ps) (sorted strict (is_identifier p) (list_all is_ascii_digit p || not (begins is_ascii_digit p))
-    (list_all is_ascii_digit p && has_leading_zero p) _ _ _)
-  where
-    sorted : (s a b c d e f : Bool) → ((a && (b && not (s && c))) && (d && ((not s || e) && f))) ≡ ((a && d) && ((not s || (not c && e)) && (b && f)))
-    sorted s a b c d e f = grind arith
+each-good strict (p ∷ ps) = grind (arith, each-good strict ps)
 
 fits-good : (strict : Bool) (ids : List ℕ) (list : List Id) → IsIdentifiers ids list → fits strict ids ≡ true → are_good strict ids ≡ true
 fits-good strict ids list i f = each-good strict (pieces ids) ∙ rw (i.runs, f) refl
@@ -73,14 +69,12 @@ pre-found strict wild text = elim (cases_Bool (is_dashed text)) [
 ]
   where
     bare-begins : (text : List ℕ) → (begins is_ascii_alphabetic text || begins_byte 45 text) ≡ true → begins_identifier text ≡ true
-    bare-begins [] k = cc k
-    bare-begins (c ∷ text) k = grind (arith, nat_tests)
+    bare-begins text k = grind (arith, nat_tests)
 
     bare-parts : (ids rest : List ℕ) → are_good strict ids ≡ true → (let all = ids ++ rest in begins is_ascii_alphabetic all || begins_byte 45 all) ≡ true
         → is_dashed (ids ++ rest) ≡ false → ((wild : Bool) → begins_undashed wild ids ≡ true) × (begins is_ascii_digit ids ≡ false)
     bare-parts [] rest g h k = cc g
-    bare-parts (c ∷ []) rest g h k = (λ wild. grind (arith, nat_tests), grind (arith, nat_tests))
-    bare-parts (c ∷ d ∷ ids) rest g h k = (λ wild. grind (arith, nat_tests), grind (arith, nat_tests))
+    bare-parts (c ∷ ids) rest g h k = (λ wild. grind (arith, nat_tests), grind (arith, nat_tests))
 
 pre-le : (strict : Bool) (text : List ℕ) → length (behind_pre_release strict text) ≤ length text
 pre-le strict text =
@@ -91,31 +85,22 @@ qualifier-le strict text = omega (arith, build_front-le (behind_pre_release stri
 
 -- a text in which no identifiers go on begins no pre-release
 quiet-end : (rest : List ℕ) → goes_on rest ≡ false → begins_identifier rest ≡ false
-quiet-end [] g = refl
-quiet-end (c ∷ rest) g = grind arith
+quiet-end rest g = grind arith
 
 none-read : (strict : Bool) (rest : List ℕ) → goes_on rest ≡ false → behind_pre_release strict rest ≡ rest
 unfolding behind_pre_release
-none-read strict [] g = rw (and-false (not strict)) refl
-none-read strict (c ∷ rest) g = grind (arith, nat_tests)
+none-read strict rest g = grind (arith, nat_tests, and-false)
 
 -- without `-` begins one that begins with a letter, or with a `-` that no identifier follows
 bare-end : (ids rest : List ℕ) → begins_undashed false ids ≡ true → begins is_ascii_digit ids ≡ false → are_good false ids ≡ true
     → Ends rest (behind_pre_release false (ids ++ rest))
 unfolding behind_pre_release
 bare-end [] rest u q g = cc u
-bare-end (c ∷ []) rest u q g =
-    let bare : (is_ascii_alphabetic c || (c == 45)) ≡ true = grind arith in
-    elim (cases_Bool ((c == 45) && begins_identifier rest)) [
-      | inl dash ↦
-          let p = and_parts (c == 45) (begins_identifier rest) dash in
-          rw dash (record { le = ids-le (length rest) false rest; exact = λ e. cc (p.1, quiet-end rest e) })
-      | inr other ↦ rw (other, bare) (ids-ends false (c ∷ []) rest g)
-    ]
-bare-end (c ∷ d ∷ ids) rest u q g =
-    let other : ((c == 45) && is_identifier_char d) ≡ false = grind (arith, nat_tests) in
-    let bare : (is_ascii_alphabetic c || (c == 45)) ≡ true = grind arith in
-    rw (other, bare) (ids-ends false (c ∷ (d ∷ ids)) rest g)
+bare-end (c ∷ ids) rest u q g =
+    let whole = ids-ends false (c ∷ ids) rest g in
+    let some = ids-le (length rest) false rest in
+    let quiet = quiet-end rest in
+    grind (arith, nat_tests)
 
 pre-end : (strict wild : Bool) (pre rest : List ℕ) (l : List Id) → IsPreRelease (not strict) (strict && wild) (fits strict) pre l
     → begins is_ascii_digit pre ≡ false → Ends rest (behind_pre_release strict (pre ++ rest))
@@ -228,35 +213,23 @@ place-found strict (c ∷ text) h = elim (cases_Bool (is_single strict (c ∷ te
 
 dotted-le : (text : List ℕ) → length (behind_place true (drop 1 text)) ≤ length text
 unfolding behind_place
-dotted-le text = elim (cases_Bool (is_single true (drop 1 text))) [
-  | inl single ↦ rw single (omega (arith, length-drop 1 (drop 1 text), length-drop 1 text))
-  | inr run ↦ rw run (omega (arith, length-drop (capped true (prefix_len is_ascii_digit (drop 1 text))) (drop 1 text), length-drop 1 text))
-]
+dotted-le text = grind (arith, nat_tests, length-drop)
 
 -- ---- up to three of them
 
 -- strictly no more is left than behind the first place, and behind the second one
 one-le : (text : List ℕ) → length (behind_places true text) ≤ length (behind_place true text)
 unfolding behind_places
-one-le text =
-    let one = behind_place true text in
-    let two = behind_place true (drop 1 one) in
-    elim (cases_Bool (begins_dotted true one)) [
-      | inr stop ↦ rw stop (omega arith)
-      | inl on ↦ elim (cases_Bool (begins_dotted true two)) [
-        | inr stop ↦ rw (on, stop) (dotted-le one)
-        | inl goes ↦ rw (on, goes) (omega (arith, qualifier-le true (behind_place true (drop 1 two)), dotted-le two, dotted-le one))
-      ]
-    ]
+one-le text = grind (arith, nat_tests, dotted-le, qualifier-le)
 
 two-max : (x y rest : List ℕ) → Placed true x → Placed true y → length (behind_places true (x ++ 46 ∷ (y ++ rest))) ≤ length rest
 unfolding behind_places
 two-max x y rest i j =
     let two = behind_place true (y ++ rest) in
-    rw (i.exact (46 ∷ (y ++ rest)) refl, j.begin rest) (elim (cases_Bool (begins_dotted true two)) [
-      | inr stop ↦ rw stop (j.max rest)
-      | inl on ↦ rw on (omega (arith, j.max rest, qualifier-le true (behind_place true (drop 1 two)), dotted-le two))
-    ])
+    let stop = j.max rest in
+    let third = dotted-le two in
+    let last = qualifier-le true (behind_place true (drop 1 two)) in
+    rw (i.exact (46 ∷ (y ++ rest)) refl, j.begin rest) (grind arith)
 
 three-append : (x y z pre build rest : List ℕ)
     → (x ++ 46 ∷ (y ++ 46 ∷ (z ++ (pre ++ build)))) ++ rest ≡ x ++ 46 ∷ (y ++ 46 ∷ (z ++ (pre ++ (build ++ rest))))
@@ -345,15 +318,11 @@ places-found strict text h =
 -- what is left behind it is one of the two rests, and no longer than either
 which : (text : List ℕ) → (strict : Bool) × (behind_partial text ≡ behind_places strict text)
 unfolding behind_partial
-which text = elim (cases_Bool (nat_le (length (behind_places false text)) (length (behind_places true text)))) [
-  | inl le ↦ (false, rw le refl)
-  | inr gt ↦ (true, rw gt refl)
-]
+which text = (not (nat_le (length (behind_places false text)) (length (behind_places true text))), grind arith)
 
 partial-le : (strict : Bool) (text : List ℕ) (n : ℕ) → length (behind_places strict text) ≤ n → length (behind_partial text) ≤ n
 unfolding behind_partial
-partial-le false text n h = grind (arith, nat_tests)
-partial-le true text n h = grind (arith, nat_tests)
+partial-le strict text n h = grind (arith, nat_tests)
 
 -- no partial that stands there is longer
 pub partial-max : (text rest : List ℕ) → IsInside text → length (behind_partial (text ++ rest)) ≤ length rest
@@ -384,9 +353,7 @@ partial-less text h =
 -- loosely nothing is read at a wildcard
 nothing-read : (strict : Bool) (text : List ℕ) → starts_place text ≡ true → starts strict text ≡ false → behind_places strict text ≡ text
 unfolding behind_places behind_place
-nothing-read strict [] h k = cc h
-nothing-read true (c ∷ text) h k = cc (h, k)
-nothing-read false (c ∷ text) h k = grind (arith, nat_tests)
+nothing-read strict text h k = grind (arith, nat_tests)
 
 pub partial-found : (text : List ℕ) → starts_place text ≡ true → InsideAt text (behind_partial text)
 partial-found text h =
