@@ -7,15 +7,15 @@ use Rattle.npm_words.proofs.Common.{common_steps, compared, cond_some, drop, dro
 use Rattle.npm_words.proofs.Common.{end_front, ended_as, false, first_as, get_or, hyphen_ends, hyphen_of, if◌then◌else◌, inl, inr, is_empty, is_free}
 use Rattle.npm_words.proofs.Common.{is_free_lower, is_free_upper, is_mark, is_right, is_right_end, is_short, is_short_word, is_valid, is_whitespace}
 use Rattle.npm_words.proofs.Common.{last_end, last_marks, le-ltb, len_utf8, len_utf8_bounds, length, length-append, length-drop, length-encode}
-use Rattle.npm_words.proofs.Common.{list_all, list_all-append, lower_of, lt-ltb, nat_tests, no_build, not, plus, prefix_len, refl, same_Some}
-use Rattle.npm_words.proofs.Common.{space_len, space_len-nil, subst, suc, sym, take, true, upper_of, zero, ℕ, ◌&&◌, ◌++◌, ◌+◌, ◌-◌, ◌<◌, ◌==◌, ◌>>?◌}
-use Rattle.npm_words.proofs.{Common.{◌||◌, ◌∙◌, ◌∷◌, ◌≡◌, ◌≤◌}, Grammar.{Characters.{is_signal, sign-signal}, PartialLaw.boundary-quiet}}
-use Rattle.npm_words.proofs.Grammar.{PartialLaw.{front-text, places-found, places-read}, Printed.{capped-valid, lower-invalid, upper-invalid}}
-use Rattle.npm_words.proofs.Grammar.{Printed.valid-same, Runs.run-exact, Signs.marks-all, Words.{marks-dropped, places-begin}}
-use Rattle.npm_words.specs.{Grammar.IsPreRelease, Internal.{Reads.valid_one, Words.{after_dash, end_len, places_front}}, RangeText.{formed, ignored}}
-use Rattle.{npm_words.specs.{RangeText.more, Table.{Partial, whole}}, semver_core.proofs.{Normal.identifiers-normal, Reading.Boundaries.blank-len}}
-use Rattle.semver_core.proofs.Reading.Boundaries.{boundary-of, boundary-utf8, byte-is, front-dark, skips-of, skips-utf8, some_space-is, tail-utf8}
-use Rattle.semver_core.proofs.{Reading.Bytes.{all-join, begins_component, is_component_byte, is_solid}, Text.SpaceLaw.front_is_first_character}
+use Rattle.npm_words.proofs.Common.{list_all, list_all-append, lower_of, lt-ltb, nat_tests, not, prefix_len, refl, same_Some, space_len}
+use Rattle.npm_words.proofs.Common.{space_len-nil, subst, suc, sym, take, true, upper_of, zero, ℕ, ◌&&◌, ◌++◌, ◌+◌, ◌-◌, ◌<◌, ◌==◌, ◌>>?◌, ◌||◌, ◌∙◌}
+use Rattle.npm_words.proofs.{Common.{◌∷◌, ◌≡◌, ◌≤◌}, Grammar.{Characters.{is_signal, sign-signal}, PartialLaw.{boundary-quiet, front-text}}}
+use Rattle.npm_words.proofs.Grammar.{PartialLaw.{places-found, places-read}, Printed.{capped-valid, lower-invalid, upper-invalid, valid-same}}
+use Rattle.npm_words.{proofs.Grammar.{Runs.run-exact, Signs.marks-all, Words.{marks-dropped, places-begin}}, specs.Grammar.IsPreRelease}
+use Rattle.npm_words.specs.{Internal.{Reads.valid_one, Words.{after_dash, end_len, places_front}}, RangeText.{formed, ignored, more}, Table.Partial}
+use Rattle.{npm_words.specs.Table.whole, semver_core.proofs.{Normal.identifiers-normal, Reading.Boundaries.{blank-len, boundary-of, boundary-utf8}}}
+use Rattle.semver_core.proofs.Reading.{Boundaries.{byte-is, front-dark, skips-of, skips-utf8, some_space-is, tail-utf8}, Bytes.all-join}
+use Rattle.semver_core.proofs.{Reading.Bytes.{begins_component, is_component_byte, is_solid}, Text.SpaceLaw.front_is_first_character}
 use Rattle.semver_core.specs.{Internal.Boundaries.after_some_space, Printing.RoundTrip.is_normal, Text.Boundaries.SkipsBlank}
 use Rattle.{semver_core.specs.Text.{Characters.BeginsBlank, Comparators.equal}, std.proofs.lemmas.List.Sums.list_all-from_AllPass}
 use Rattle.std.{proofs.lemmas.List.{Sums.{prefix_len_passes, suffix_len-le-length}, get_or-drop, get_or-reverse}, specs.List.suffix_len}
@@ -217,8 +217,7 @@ pre-normal : (loose wild : Bool) (fits : List ℕ → Bool) (text : List ℕ) (i
 pre-normal loose wild fits text ids h = grind (arith, nat_tests, common_steps, identifiers-normal)
 
 build-normal : (text : List ℕ) (ids : List Id) → IsStrictBuild text ids → list_all is_normal ids ≡ true
-build-normal text ids no_build = refl
-build-normal text ids (plus t list h) = identifiers-normal t list h
+build-normal text ids h = grind (arith, identifiers-normal)
 
 pub places-normal : (loose : Bool) (text : List ℕ) (p : Partial) → IsPlaces loose text p → are_normal p ≡ true
 places-normal loose text p h = grind (arith, nat_tests, common_steps, pre-normal, build-normal)

@@ -3,10 +3,10 @@ use Rattle.npm_words.proofs.Common.{Bool, IsIgnored, IsUtf8, List, [], ap, arith
 use Rattle.npm_words.proofs.Common.{from_boundary, if◌then◌else◌, inl, inr, is_boundary, len_utf8_bounds, length, length-append, length-encode}
 use Rattle.npm_words.proofs.Common.{length-take-le, nat_lt, nat_tests, refl, space_len, subst, suc, sym, take, true, zero, ℕ, ◌++◌, ◌-◌, ◌<◌, ◌∙◌}
 use Rattle.npm_words.proofs.{Common.{◌∷◌, ◌≡◌, ◌≤◌}, Grammar.{Inside.{not-taken, taken-found, taken-not, taken-read}, PartialLaw.front-text}}
-use Rattle.npm_words.proofs.Grammar.Runs.{steps-go, steps-stop}
-use Rattle.npm_words.{proofs.Grammar.Signs.{blank-at, blank-nil}, specs.{Internal.Words.takes_on, Malformed.{goes_on, stops}}}
-use Rattle.semver_core.proofs.Reading.Boundaries.{boundary-le, boundary-utf8, first-is, first-of, skips-is, skips-of, skips-utf8, spaces-gone, spaces-le}
-use Rattle.semver_core.specs.Text.{Boundaries.{IsBoundary, IsFirstBoundary, SkipsBlank}, Characters.BeginsBlank}
+use Rattle.npm_words.{proofs.Grammar.{Runs.{steps-go, steps-stop}, Signs.{blank-at, blank-nil}}, specs.{Internal.Words.takes_on, Malformed.goes_on}}
+use Rattle.{npm_words.specs.Malformed.stops, semver_core.proofs.Reading.Boundaries.{boundary-le, boundary-utf8, first-is, first-of, skips-is}}
+use Rattle.semver_core.{proofs.Reading.Boundaries.{skips-of, skips-utf8, spaces-gone, spaces-le}, specs.Text.Boundaries.{IsBoundary, IsFirstBoundary}}
+use Rattle.semver_core.specs.Text.{Boundaries.SkipsBlank, Characters.BeginsBlank}
 
 nil-of : (text : List ℕ) → length text ≤ 0 → text ≡ []
 nil-of [] le = refl

@@ -1,17 +1,18 @@
 -- A partial inside a malformed word: what the functions find at the front of a text is one, and no longer one stands there.
 use Rattle.npm_words.proofs.Common.{Bool, Id, IsIdentifiers, IsNumber, IsPlace, IsStrictBuild, List, None, Option, Some, VersionValue, [], and-false}
 use Rattle.npm_words.proofs.Common.{and_parts, ap, append_assoc, ap₂, arith, bare, begins, begins_byte, begins_identifier, begins_undashed}
-use Rattle.npm_words.proofs.Common.{begins_wildcard, build_front, cases_Bool, dashed, digits_value, drop, drop_at, eqb-true, false, has_leading_zero}
-use Rattle.npm_words.proofs.Common.{if◌then◌else◌, inl, inr, is_ascii_digit, is_none, is_strict_list, length, length-append, length-drop, list_all}
-use Rattle.npm_words.proofs.Common.{listed, nat_le, nat_lt, nat_tests, no_build, no_pre_release, not, one, pieces, plus, prefix_len, refl, subst, suc}
-use Rattle.npm_words.proofs.Common.{sym, take, take-append-drop, three, true, two, zero, ℕ, ◌&&◌, ◌++◌, ◌<◌, ◌==◌, ◌||◌, ◌∙◌, ◌∷◌, ◌≡◌, ◌≤◌, ◌⊎◌}
-use Rattle.npm_words.proofs.Grammar.{InsideIds.{Ends, are_good, drop-le, ids-begin, ids-ends, ids-found, ids-le, is_good}, PartialLaw.digits-of}
-use Rattle.npm_words.{proofs.Grammar.{Runs.run-many, VersionLaw.build-found}, specs.{Grammar.{IsPreRelease, written}, Internal.Inside.begins_dotted}}
-use Rattle.npm_words.specs.Internal.Inside.{behind_ids, behind_partial, behind_place, behind_places, behind_pre_release, behind_qualifier, capped}
-use Rattle.npm_words.specs.{Internal.Inside.{is_single, most, starts}, Malformed.{IsInside, are_found, partial, version}, Partials.{any, number}}
-use Rattle.semver_core.proofs.Reading.{IdentifierLists.{written-begins, written-le}, Numbers.digits-taken, Qualifiers.{build_front-le, byte-begins}}
-use Rattle.semver_core.specs.Text.{Identifiers.{goes_on, is_identifier}}
-use Rattle.std.{proofs.lemmas.List.{Sums.prefix_len-le-length, length-take-le}, specs.Char.is_ascii_alphabetic}
+use Rattle.npm_words.proofs.Common.{begins_wildcard, build_front, cases_Bool, common_steps, dashed, digits_value, drop, drop_at, false}
+use Rattle.npm_words.proofs.Common.{has_leading_zero, if◌then◌else◌, inl, inr, is_ascii_digit, is_none, is_strict_list, length, length-append}
+use Rattle.npm_words.proofs.Common.{length-drop, list_all, listed, nat_le, nat_lt, nat_tests, no_build, no_pre_release, not, one, pieces, plus}
+use Rattle.npm_words.proofs.Common.{prefix_len, refl, subst, suc, sym, take, take-append-drop, three, true, two, zero, ℕ, ◌&&◌, ◌++◌, ◌<◌, ◌==◌, ◌||◌}
+use Rattle.npm_words.proofs.{Common.{◌∙◌, ◌∷◌, ◌≡◌, ◌≤◌, ◌⊎◌}, Grammar.InsideIds.{Ends, are_good, drop-le, ids-begin, ids-ends, ids-found, ids-le}}
+use Rattle.npm_words.proofs.Grammar.{InsideIds.is_good, PartialLaw.{digits-of, run-number}, Runs.run-many, VersionLaw.build-found}
+use Rattle.npm_words.specs.{Grammar.{IsPreRelease, written}, Internal.Inside.{begins_dotted, behind_ids, behind_partial, behind_place, behind_places}}
+use Rattle.npm_words.specs.{Internal.Inside.{behind_pre_release, behind_qualifier, capped, is_single, most, starts}, Malformed.{IsInside, are_found}}
+use Rattle.{npm_words.specs.{Malformed.{partial, version}, Partials.{any, number}}, semver_core.proofs.Reading.IdentifierLists.written-begins}
+use Rattle.semver_core.proofs.Reading.{IdentifierLists.written-le, Numbers.digits-taken, Qualifiers.{build_front-le, byte-begins}}
+use Rattle.{semver_core.specs.Text.Identifiers.{goes_on, is_identifier}, std.proofs.lemmas.List.{Sums.prefix_len-le-length, length-take-le}}
+use Rattle.std.specs.Char.{is_ascii_alphabetic}
 
 -- ---- which identifiers may stand there
 
@@ -174,22 +175,17 @@ run-part strict zero c text some le short plain = absurd (omega arith)
 run-part false (suc k) c text some le short plain =
     let len = length-take-le (suc k) (c ∷ text) (omega (arith, le, prefix_len-le-length is_ascii_digit (c ∷ text))) in
     let fits : suc k ≤ 256 = grind (arith, nat_tests) in
-    (record { some = omega arith; each = digits-of (suc k) (c ∷ text) le; value = refl; safe = omega arith }, omega (arith, len, fits))
+    (run-number (c ∷ take k text) (omega arith) (digits-of (suc k) (c ∷ text) le), omega (arith, len, fits))
 run-part true (suc k) c text some le short plain =
     let len = length-take-le (suc k) (c ∷ text) (omega (arith, le, prefix_len-le-length is_ascii_digit (c ∷ text))) in
     let first : has_leading_zero (c ∷ take k text) ≡ false = grind arith in
-    let is : IsNumber (digits_value 10 (c ∷ take k text)) (c ∷ take k text) (digits_value 10 (c ∷ take k text)) =
-    record { some = omega arith; each = digits-of (suc k) (c ∷ text) le; value = refl; safe = omega arith } in
-    number (c ∷ take k text) _ is (rw first refl) (rw len short)
+    number (c ∷ take k text) _ (run-number (c ∷ take k text) (omega arith) (digits-of (suc k) (c ∷ text) le)) (rw first refl) (rw len short)
 
 single-part : (strict : Bool) (c : ℕ) (text : List ℕ) → is_single strict (c ∷ text) ≡ true → (a : Option ℕ) × IsPart strict (c ∷ []) a
 single-part false c text h = cc h
 single-part true c text h = elim (cases_Bool (c == 48)) [
   | inr other ↦ (None, any c (rw other at h))
-  | inl same ↦
-      let null : IsPlace false (48 ∷ []) (Some 0) =
-      number (48 ∷ []) 0 (record { some = omega arith; each = refl; value = refl; safe = omega arith }) refl refl in
-      (Some 0, subst (λ (b : ℕ). IsPlace false (b ∷ []) (Some 0)) (sym (eqb-true c 48 same)) null)
+  | inl null ↦ (Some (digits_value 10 (c ∷ [])), number (c ∷ []) _ (run-number (c ∷ []) (omega arith) (grind (arith, nat_tests))) refl refl)
 ]
 
 abbrev PlaceAt : Bool → List ℕ → List ℕ → Type 0
@@ -336,9 +332,7 @@ partial-max text rest (partial t p (three x y z pre build a b c ids builds h k l
     (three-max true (is_none c) x y z pre build rest ids builds (place-placed x a h) (place-placed y b k) (place-placed z c l) m (quiet m) n))
   where
     quiet : {wild : Bool} {fits : List ℕ → Bool} {pre : List ℕ} {l : List Id} → IsPreRelease false wild fits pre l → begins is_ascii_digit pre ≡ false
-    quiet no_pre_release = refl
-    quiet (dashed t list i h) = refl
-    quiet (bare t list i h x) = cc x
+    quiet h = grind (arith, nat_tests, common_steps)
 
 -- a number or a wildcard is at the front
 abbrev pub starts_place : List ℕ → Bool
@@ -370,10 +364,8 @@ partial-found text h =
 pub inside-starts : (text rest : List ℕ) → IsInside text → starts_place (text ++ rest) ≡ true
 inside-starts text rest (version t v (written [] x y z pre build w m i j k p q)) =
     let tail = 46 ∷ (y ++ 46 ∷ (z ++ (pre ++ (build ++ rest)))) in
-    rw (three-append x y z pre build rest) (digit-starts (x ++ tail) ((number-placed x _ i).begin tail))
-  where
-    digit-starts : (text : List ℕ) → starts false text ≡ true → starts_place text ≡ true
-    digit-starts text h = grind arith
+    let first = (number-placed x _ i).begin tail in
+    rw (three-append x y z pre build rest) (grind arith)
 inside-starts text rest (version t v (written (c ∷ mark) x y z pre build w m i j k p q)) = cc m
 inside-starts text rest (partial t p (one x a h)) = (place-placed x a h).begin rest
 inside-starts text rest (partial t p (two x y a b h k)) = rw (append_assoc x (46 ∷ y) rest) ((place-placed x a h).begin (46 ∷ (y ++ rest)))

@@ -59,8 +59,7 @@ patch-exact loose run rest each f =
 
 run-read : (loose : Bool) (run rest : List ℕ) (n : ℕ) → IsNumber n run n → is_spelled loose run ≡ true → (loose || nat_le (length run) 257) ≡ true
     → run_place loose run rest ≡ Some (Some n, rest)
-run-read loose [] rest n k spelled short = absurd (omega (arith, k.some))
-run-read loose (c ∷ run) rest n k spelled short = rw (short, spelled) (ap (λ (m : ℕ). Some (Some m, rest)) (sym k.value))
+run-read loose run rest n k spelled short = grind (arith, some-run run, k.some, k.value)
 
 patch-read : (loose : Bool) (run rest : List ℕ) (n : ℕ) → IsNumber n run n → is_spelled loose run ≡ true → (loose || nat_le (length run) 257) ≡ true
     → Follows loose rest → patch_place loose (run ++ rest) ≡ Some (Some n, rest)
@@ -87,12 +86,16 @@ third-read loose fits z pre behind (Some n) l (Text.number run m k spelled short
 
 -- ---- what is read is written
 
+-- digits are the number that they spell
+pub run-number : (run : List ℕ) → 0 < length run → list_all is_ascii_digit run ≡ true → IsNumber (digits_value 10 run) run (digits_value 10 run)
+run-number run some each = record { some = some; each = each; value = refl; safe = omega arith }
+
 run-place : (loose : Bool) (run : List ℕ) → list_all is_ascii_digit run ≡ true
     → (not (is_empty run) && (loose || nat_le (length run) 257) && is_spelled loose run) ≡ true → IsPlace loose run (Some (digits_value 10 run))
 run-place loose [] each h = cc h
 run-place loose (c ∷ run) each h =
     let p = and_parts (loose || nat_le (length (c ∷ run)) 257) (is_spelled loose (c ∷ run)) h in
-    Text.number (c ∷ run) _ (record { some = omega arith; each = each; value = refl; safe = omega arith }) p.1 p.0
+    Text.number (c ∷ run) _ (run-number (c ∷ run) (omega arith) each) p.1 p.0
 
 -- a run of digits that is a place, and what stands behind it
 cut-found : (loose : Bool) (k : ℕ) (text : List ℕ) (a : Option ℕ) (rest : List ℕ) → k ≤ prefix_len is_ascii_digit text
@@ -103,9 +106,7 @@ cut-found loose k text a rest h e =
       | inr none ↦ cc (rw none at e)
       | inl good ↦
           let f = run-place loose run (digits-of k text h) good in
-          let same : ◌≡◌ {A = Front (Option ℕ)} (Some (Some (digits_value 10 run), drop k text)) (Some (a, rest)) = rw good at e in
-          let pair = same_Some _ _ same in
-          record { piece = run; split = sym (take-append-drop k text) ∙ ap (λ (p : Option ℕ × List ℕ). run ++ p.1) pair; is = subst (IsPlace loose run) (ap (λ (p : Option ℕ × List ℕ). p.0) pair) f }
+          grind (arith, take-append-drop k text)
     ]
 
 place-found : (loose : Bool) (text : List ℕ) (a : Option ℕ) (rest : List ℕ) → place_front loose text ≡ Some (a, rest)
@@ -157,15 +158,6 @@ places-read loose x more p (three x1 y z pre build a b c ids builds h k l m n t)
 
 -- ---- what is read is written
 
--- what was found, and what was asked for
-places-at : (loose : Bool) (text piece : List ℕ) (p : Partial) (rest : List ℕ) {q : Partial × List ℕ} → IsPlaces loose piece q.0 → q ≡ (p, rest)
-    → text ≡ piece ++ q.1 → At (IsPlaces loose) text p rest
-places-at loose text piece p rest is e split = record {
-  piece = piece;
-  split = split ∙ ap (λ (q : Partial × List ℕ). piece ++ q.1) e;
-  is = subst (λ (q : Partial × List ℕ). IsPlaces loose piece q.0) e is;
-}
-
 qualified-found : (loose : Bool) (a b c : Option ℕ) (x y z text : List ℕ) (p : Partial) (rest : List ℕ) → IsPlace loose x a → IsPlace loose y b
     → IsPlace loose z c → qualified_partial loose a b c text ≡ Some (p, rest) → At (IsPlaces loose) (x ++ 46 ∷ (y ++ 46 ∷ (z ++ text))) p rest
 unfolding qualified_partial
@@ -180,9 +172,11 @@ qualified-found loose a b c x y z text p rest i j k h =
           let g = build-found front.1 in
           let is = three x y z f.0 g.0 a b c _ _ i j k f.2 g.2 (rw g.3 parts.1) in
           let same : ◌≡◌ {A = Front Partial} (Some (partial_of a b c (listed front.0) (listed last.0), last.1)) (Some (p, rest)) = rw good at h in
-          places-at loose _ _ p rest is (same_Some _ _ same)
-          (ap (λ (t : List ℕ). x ++ 46 ∷ (y ++ 46 ∷ (z ++ t))) (f.1 ∙ ap (λ (t : List ℕ). f.0 ++ t) g.1)
-          ∙ grind (arith, append_assoc))
+          subst (λ (q : Partial × List ℕ). At (IsPlaces loose) (x ++ 46 ∷ (y ++ 46 ∷ (z ++ text))) q.0 q.1) (same_Some _ _ same) (record {
+            piece = x ++ 46 ∷ (y ++ 46 ∷ (z ++ (f.0 ++ g.0)));
+            split = ap (λ (t : List ℕ). x ++ 46 ∷ (y ++ 46 ∷ (z ++ t))) (f.1 ∙ ap (λ (t : List ℕ). f.0 ++ t) g.1) ∙ grind (arith, append_assoc);
+            is = is;
+          })
     ]
 
 pub places-found : (loose : Bool) (text : List ℕ) (p : Partial) (rest : List ℕ) → places_front loose text ≡ Some (p, rest)
@@ -193,16 +187,15 @@ places-found loose text p rest h =
     let x = place-found loose text a.0.0 a.0.1 a.1 in
     elim (option-cases (dotted_place loose a.0.1)) [
       | inl none ↦
-          let end : ◌≡◌ {A = Front Partial} (Some (partial_of a.0.0 None None [] [], a.0.1)) (Some (p, rest)) = rw none at a.2 in
-          places-at loose text x.piece p rest (one x.piece a.0.0 x.is) (same_Some _ _ end) x.split
+          let is : IsPlaces loose x.piece (partial_of a.0.0 None None [] []) = one x.piece a.0.0 x.is in
+          grind arith
       | inr b ↦
           let y = dotted-found (IsPlace loose) (place_front loose) a.0.1 b.0.0 b.0.1 (λ t e. place-found loose t b.0.0 b.0.1 e) b.1 in
           let third = rw b.1 at a.2 in
           elim (option-cases (dotted_patch loose b.0.1)) [
             | inl none ↦
-                let end : ◌≡◌ {A = Front Partial} (Some (partial_of a.0.0 b.0.0 None [] [], b.0.1)) (Some (p, rest)) = rw none at third in
-                places-at loose text _ p rest (two x.piece y.0 a.0.0 b.0.0 x.is y.2) (same_Some _ _ end)
-                (x.split ∙ ap (λ (t : List ℕ). x.piece ++ t) y.1 ∙ sym (append_assoc x.piece (46 ∷ y.0) b.0.1))
+                let is : IsPlaces loose (x.piece ++ 46 ∷ y.0) (partial_of a.0.0 b.0.0 None [] []) = two x.piece y.0 a.0.0 b.0.0 x.is y.2 in
+                grind (arith, append_assoc)
             | inr c ↦
                 let z = dotted-found (IsPlace loose) (patch_place loose) b.0.1 c.0.0 c.0.1 (λ t e. patch-found loose t c.0.0 c.0.1 e) c.1 in
                 let whole : x.piece ++ 46 ∷ (y.0 ++ 46 ∷ (z.0 ++ c.0.1)) ≡ text = cc (x.split, y.1, z.1) in

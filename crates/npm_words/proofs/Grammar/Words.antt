@@ -1,14 +1,14 @@
 -- The words of node-semver's range texts: the functions that read them find exactly what the statement has, one word after another.
 use Rattle.npm_words.proofs.Common.{AreWords, BeginsAs, BeginsWord, Bool, Comparison, Front, IsBlank, IsPlace, IsPlaces, IsUtf8, IsWord, List}
 use Rattle.npm_words.proofs.Common.{NoValue, None, Option, Signed, Some, [], and_parts, ap, append-nil, append_assoc, are_marks, arith, begins_byte}
-use Rattle.npm_words.proofs.Common.{behind_ignored, bind_some, capped_in, capped_partial, cases_Bool, common_steps, cond_some, drop, drop_at}
-use Rattle.npm_words.proofs.Common.{drop_spaces, eqb-true, false, first_as, first_word, inl, inr, is_boundary, is_empty, is_lost, is_mark}
-use Rattle.npm_words.proofs.Common.{is_short_word, length, length-append, list_all, marked_word, marks_len, nat_tests, npm_sign, refl, same_Some}
-use Rattle.npm_words.proofs.Common.{signed_word, space_len, subst, suc, sym, take, take-append-drop, take_at, take_rest, true, word, words_within}
-use Rattle.npm_words.proofs.{Common.{zero, ℕ, ◌&&◌, ◌++◌, ◌-◌, ◌<◌, ◌==◌, ◌>>?◌, ◌||◌, ◌∙◌, ◌∷◌, ◌≡◌, ◌≤◌}, Grammar.Ignored.ignored-found}
-use Rattle.npm_words.proofs.Grammar.{Ignored.ignored-read, PartialLaw.{boundary-quiet, digits-begin, front-text, places-found, places-read}}
-use Rattle.npm_words.proofs.Grammar.{Runs.{run-many, run-none}, Signs.{blank-cases, is_open, marks-all, open-first, sign-found, sign-taken}}
-use Rattle.npm_words.specs.{Internal.Words.{ended_word, places_front, signed_or}, RangeText.{formed, ignored, more}, Table.{Partial, Sign, table}}
+use Rattle.npm_words.proofs.Common.{behind_ignored, bind_some, capped_in, capped_partial, common_steps, cond_some, drop, drop_at, drop_spaces, false}
+use Rattle.npm_words.proofs.Common.{first_as, first_word, inl, inr, is_boundary, is_empty, is_lost, is_mark, is_short_word, length, length-append}
+use Rattle.npm_words.proofs.Common.{list_all, marked_word, marks_len, nat_tests, npm_sign, refl, same_Some, signed_word, space_len, subst, suc, sym}
+use Rattle.npm_words.proofs.Common.{take, take-append-drop, take_at, take_rest, true, word, words_within, zero, ℕ, ◌&&◌, ◌++◌, ◌-◌, ◌<◌, ◌>>?◌, ◌||◌}
+use Rattle.npm_words.proofs.{Common.{◌∙◌, ◌∷◌, ◌≡◌, ◌≤◌}, Grammar.{Ignored.{ignored-found, ignored-read}, PartialLaw.{boundary-quiet, digits-begin}}}
+use Rattle.npm_words.proofs.Grammar.{PartialLaw.{front-text, places-found, places-read}, Runs.{run-many, run-none}, Signs.{blank-cases, is_open}}
+use Rattle.npm_words.{proofs.Grammar.Signs.{marks-all, open-first, sign-found, sign-taken}, specs.Internal.Words.{ended_word, places_front}}
+use Rattle.npm_words.specs.{Internal.Words.signed_or, RangeText.{formed, ignored, more}, Table.{Partial, Sign, table}}
 use Rattle.semver_core.proofs.Reading.Boundaries.{boundary-of, boundary-utf8, skips-is, skips-of, skips-utf8, spaces-le, suffix-boundary}
 use Rattle.semver_core.proofs.Reading.{Bytes.{begins-on, begins-some, begins_component, is_component_byte}, Steps.option-cases}
 use Rattle.semver_core.specs.Text.Boundaries.{SkipsBlank}
@@ -93,12 +93,7 @@ pub record WordAt (loose include : Bool) (text : List ℕ) (w : Signed) (rest : 
 none-first : (text : List ℕ) → text ≡ (npm_sign text).1 → begins_byte 61 text ≡ false
 unfolding npm_sign
 none-first [] h = refl
-none-first (b ∷ rest) h = elim (cases_Bool (b == 61)) [
-  | inr other ↦ other
-  | inl mark ↦
-      let same : 61 ∷ rest ≡ drop_spaces rest = rw (eqb-true b 61 mark) at h in
-      absurd (omega (arith, ap length same, spaces-le rest))
-]
+none-first (b ∷ rest) h = grind (arith, nat_tests, spaces-le rest)
 
 first-take : (n : ℕ) (text : List ℕ) → begins_byte 61 text ≡ false → begins_byte 61 (take n text) ≡ false
 first-take n text h = grind arith

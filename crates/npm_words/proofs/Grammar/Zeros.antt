@@ -1,12 +1,12 @@
 -- How many numbers of a partial are written `0`: strictly as many as are 0, so that node-semver's table goes by the values of the numbers.
 use Rattle.npm_words.proofs.Common.{Bool, Comparison, Id, IsNumber, IsPlace, IsPlaces, IsStrictBuild, List, None, Numbers, Option, Some, VersionValue}
-use Rattle.npm_words.proofs.Common.{[], and_parts, ap, append-nil, arith, at_least, begins, bytes_eq, bytes_eq-Decides, cases_Bool, codes}
-use Rattle.npm_words.proofs.Common.{common_steps, compared, digits_grow, drop, false, first, from, has_leading_zero, if◌then◌else◌, inl, inr}
-use Rattle.npm_words.proofs.Common.{is_ascii_digit, is_release, length, list_all, major, nat_tests, not, partial_of, prefix_len, refl, subst, sym}
-use Rattle.npm_words.proofs.Common.{take, take_at, take_rest, take_while, true, under, whole, wildcard, ℕ, ◌&&◌, ◌++◌, ◌+◌, ◌-◌, ◌==◌, ◌∙◌, ◌∷◌, ◌≡◌}
-use Rattle.npm_words.{proofs.Grammar.Runs.run-behind, specs.{Grammar.IsPreRelease, Internal.Parts.{AreZeros, is_padded}, Table.{Partial, Sign}}}
-use Rattle.{npm_words.specs.Table.{caret, next, table, tilde, unbuilt, written_zeros, zeros}, semver_core.proofs.Reading.Numbers.digits-taken}
-use Rattle.{semver_core.specs.Text.Comparators.equal, std.proofs.lemmas.{Bool.le-ltb, List.drop-drop}}
+use Rattle.npm_words.proofs.Common.{[], and_parts, ap, append-nil, arith, at_least, begins, bytes_eq, bytes_eq-Decides, codes, common_steps, compared}
+use Rattle.npm_words.proofs.Common.{digits_grow, drop, false, first, from, has_leading_zero, if◌then◌else◌, is_ascii_digit, is_release, length}
+use Rattle.npm_words.proofs.Common.{list_all, major, nat_tests, not, partial_of, prefix_len, refl, subst, sym, take, take_at, take_rest, take_while}
+use Rattle.npm_words.proofs.{Common.{true, under, whole, wildcard, ℕ, ◌&&◌, ◌++◌, ◌+◌, ◌-◌, ◌==◌, ◌∙◌, ◌∷◌, ◌≡◌}, Grammar.Runs.run-behind}
+use Rattle.npm_words.specs.{Grammar.IsPreRelease, Internal.Parts.{AreZeros, is_padded}, Table.{Partial, Sign, caret, next, table, tilde, unbuilt}}
+use Rattle.{npm_words.specs.Table.{written_zeros, zeros}, semver_core.{proofs.Reading.Numbers.digits-taken, specs.Text.Comparators.equal}}
+use Rattle.std.proofs.lemmas.{Bool.le-ltb, List.drop-drop}
 use Rattle.npm_words.specs.Partials as Text
 
 -- ---- the text
@@ -75,15 +75,9 @@ zeros-dotted : (x y rest : List ℕ) (n : ℕ) (b c : Option ℕ) → IsPlace fa
     → written_zeros (x ++ (46 ∷ (y ++ rest))) ≡ zeros_of (Some n) b c
 unfolding zeros_of
 zeros-dotted x y rest n b c h k stop f =
-    zeros-behind x (46 ∷ (y ++ rest)) n h refl ∙ rw (zero-place y rest b k stop) (go b k f)
-  where
-    go : (b : Option ℕ) → IsPlace false y b → (is_zero_place b ≡ true → zero_at (drop 1 rest) ≡ is_zero_place c)
-        → counted (n == 0) (is_zero_place b) (zero_at (drop 2 (y ++ rest))) ≡ counted (n == 0) (is_zero_place b) (is_zero_place c)
-    go None k f = refl
-    go (Some m) k f = elim (cases_Bool (m == 0)) [
-      | inr some ↦ rw some refl
-      | inl zero ↦ (let e : y ≡ codes "0" = zero-alone y m k zero in rw (zero, e, f zero) refl)
-    ]
+    let first = zeros-behind x (46 ∷ (y ++ rest)) n h refl in
+    let second = zero-place y rest b k stop in
+    grind (arith, zero-alone y)
 
 zeros-partial : (n : ℕ) (b c : Option ℕ) (l m : List Id) → zeros_of (Some n) b c ≡ zeros (partial_of (Some n) b c l m)
 unfolding zeros_of
