@@ -110,10 +110,7 @@ end-found loose text e u h =
     let whole : text ≡ marks ++ (f.piece ++ p.0.1) = m.split ∙ ap (λ (t : List ℕ). marks ++ t) f.split in
     let are : AreMarks marks = (m.characters, refl, m.each) in
     let is : IsEnd loose text p.0.1 = record { marks = marks; places = f.piece; partial = p.0.0; divided = whole; are = are; is = f.is } in
-    subst (EndRead loose text) (same_Some (ended_as text (drop_ends text) p.0) e p.2) (
-      is,
-      ap₂ (λ (m x : List ℕ). (m, p.0.0, last_marks m ++ x)) (front-is text marks (drop_ends text) m.split) (front-is (drop_ends text) f.piece p.0.1 f.split),
-    )
+    subst (EndRead loose text) (same_Some (ended_as text (drop_ends text) p.0) e p.2) (is, grind (arith, front-is))
 
 -- ---- hyphen ranges
 
@@ -282,12 +279,10 @@ marks-front (c ∷ cs) h = grind (arith, nat_tests, common_steps, and_parts, all
 abbrev pub WordFront : List ℕ → List ℕ → Type 0
 WordFront text behind = (x : List ℕ) × (p : Partial) × IsPlaces false x p × (drop (prefix_len is_front text) text ≡ x ++ behind)
 
-front-first : (u : List ℕ) → begins_component u ≡ true → begins is_front u ≡ false
-front-first u h = grind arith
-
 front-of : (text front x behind : List ℕ) (p : Partial) → text ≡ front ++ (x ++ behind) → list_all is_front front ≡ true → IsPlaces false x p
     → WordFront text behind
-front-of text front x behind p e h k = (x, p, k, rw e (run-exact is_front front _ h (front-first (x ++ behind) (places-begin false x behind p k))))
+front-of text front x behind p e h k =
+    let first = places-begin false x behind p k in (x, p, k, rw e (run-exact is_front front _ h (grind arith)))
 
 end-at : (text before : List ℕ) → IsEnd false text before → WordFront text before
 end-at text before h = front-of text h.marks h.places before h.partial h.divided (rw h.are.1 (marks-front h.are.0 h.are.2)) h.is

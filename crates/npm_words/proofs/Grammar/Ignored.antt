@@ -1,12 +1,12 @@
 -- How far a malformed word goes: the function that looks for its end finds exactly what the statement has.
 use Rattle.npm_words.proofs.Common.{Bool, IsIgnored, IsUtf8, List, [], ap, arith, behind_ignored, cases_Bool, drop_spaces, encode_utf8, false}
 use Rattle.npm_words.proofs.Common.{from_boundary, if◌then◌else◌, inl, inr, is_boundary, len_utf8_bounds, length, length-append, length-encode}
-use Rattle.npm_words.proofs.Common.{length-take-le, nat_lt, nat_tests, refl, space_len, subst, suc, sym, take, true, zero, ℕ, ◌++◌, ◌-◌, ◌<◌, ◌∙◌}
-use Rattle.npm_words.proofs.{Common.{◌∷◌, ◌≡◌, ◌≤◌}, Grammar.{Inside.{not-taken, taken-found, taken-not, taken-read}, PartialLaw.front-text}}
-use Rattle.npm_words.{proofs.Grammar.{Runs.{steps-go, steps-stop}, Signs.{blank-at, blank-nil}}, specs.{Internal.Words.takes_on, Malformed.goes_on}}
-use Rattle.{npm_words.specs.Malformed.stops, semver_core.proofs.Reading.Boundaries.{boundary-le, boundary-utf8, first-is, first-of, skips-is}}
-use Rattle.semver_core.{proofs.Reading.Boundaries.{skips-of, skips-utf8, spaces-gone, spaces-le}, specs.Text.Boundaries.{IsBoundary, IsFirstBoundary}}
-use Rattle.semver_core.specs.Text.{Boundaries.SkipsBlank, Characters.BeginsBlank}
+use Rattle.npm_words.proofs.Common.{length-take-le, nat_tests, refl, space_len, subst, suc, sym, take, true, zero, ℕ, ◌++◌, ◌-◌, ◌<◌, ◌∙◌, ◌∷◌, ◌≡◌}
+use Rattle.npm_words.proofs.{Common.◌≤◌, Grammar.{Inside.{not-taken, taken-found, taken-not, taken-read}, PartialLaw.front-text, Runs.steps-go}}
+use Rattle.npm_words.{proofs.Grammar.{Runs.steps-stop, Signs.{blank-at, blank-nil}}, specs.{Internal.Words.takes_on, Malformed.{goes_on, stops}}}
+use Rattle.semver_core.proofs.Reading.Boundaries.{boundary-le, boundary-utf8, first-is, first-of, skips-is, skips-of, skips-utf8, spaces-gone}
+use Rattle.semver_core.{proofs.Reading.Boundaries.spaces-le, specs.Text.Boundaries.{IsBoundary, IsFirstBoundary, SkipsBlank}}
+use Rattle.semver_core.specs.Text.Characters.{BeginsBlank}
 
 nil-of : (text : List ℕ) → length text ≤ 0 → text ≡ []
 nil-of [] le = refl
@@ -61,10 +61,7 @@ spaces-less text u some =
 boundary-less : (text : List ℕ) → IsUtf8 text → 0 < length text → length (drop_spaces (from_boundary text)) < length text
 unfolding from_boundary is_boundary
 boundary-less [] u some = absurd (omega (arith, some))
-boundary-less (b ∷ text) u some = elim (cases_Bool (nat_lt 0 (space_len (b ∷ text)))) [
-  | inl here ↦ grind (arith, here, nat_tests, spaces-less (b ∷ text) u)
-  | inr on ↦ grind (arith, on, spaces-le (from_boundary text), boundary-le text)
-]
+boundary-less (b ∷ text) u some = grind (arith, nat_tests, spaces-less (b ∷ text) u, spaces-le (from_boundary text), boundary-le text)
 
 pub record IgnoredAt (text end : List ℕ) : Type 0 where
   pub is : IsIgnored text end
@@ -80,7 +77,8 @@ nil-ignored : (text : List ℕ) → IsUtf8 text → length text ≤ 0 → Ignore
 unfolding takes_on
 nil-ignored [] u le =
     let f : IsFirstBoundary [] [] = ([], refl, inl refl, λ x y e h. omega arith) in
-    record { is = stops [] [] [] f ([], refl, blank-nil, no-blank) (not-taken [] [] refl); ended = inl refl; utf8 = u; fits = omega arith; less = λ some. omega (arith, some) }
+    let is = stops [] [] [] f ([], refl, blank-nil, no-blank) (not-taken [] [] refl) in
+    record { is = is; ended = inl refl; utf8 = u; fits = omega arith; less = λ some. omega (arith, some) }
 nil-ignored (b ∷ text) u le = absurd (omega (arith, le))
 
 pub ignored-found : (n : ℕ) (text : List ℕ) → IsUtf8 text → length text ≤ n → IgnoredAt text (behind_ignored n text)

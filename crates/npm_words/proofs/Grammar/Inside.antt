@@ -11,12 +11,10 @@ use Rattle.{npm_words.specs.Malformed.{begins_place, more, none}, std.{proofs.Ma
 -- ---- the first place
 
 apart-starts : (text : List ℕ) → is_empty text ≡ false → begins is_apart text ≡ false → starts_place text ≡ true
-apart-starts [] h k = cc h
-apart-starts (c ∷ text) h k = grind (arith, nat_tests, common_steps)
+apart-starts text h k = grind (arith, nat_tests, common_steps)
 
 starts-apart : (text : List ℕ) → starts_place text ≡ true → begins is_apart text ≡ false
-starts-apart [] h = refl
-starts-apart (c ∷ text) h = grind (arith, nat_tests, common_steps)
+starts-apart text h = grind (arith, nat_tests, common_steps)
 
 abbrev is_placed : List ℕ → Bool
 is_placed text = not (is_empty (from_place text))
@@ -56,9 +54,7 @@ first-none : (text : List ℕ) → first_place text ≡ None → is_placed text 
 first-none text h = grind (arith, nat_tests, common_steps, length-drop)
 
 some-left : (n : ℕ) (text : List ℕ) → n < length text → is_empty (drop n text) ≡ false
-some-left n [] h = absurd (omega (arith, h))
-some-left zero (c ∷ text) h = refl
-some-left (suc n) (c ∷ text) h = some-left n text (omega (arith, h))
+some-left n text h = rw (empty-length (drop n text), length-drop n text) (grind (arith, nat_tests))
 
 first-some : (text : List ℕ) (at : ℕ) → first_place text ≡ Some at → (is_placed text ≡ true) × (take (length text - at) (drop at text) ≡ from_place text)
 first-some text at h = (grind (arith, nat_tests, common_steps, some-left), grind (arith, nat_tests, common_steps, take_rest))
@@ -93,13 +89,8 @@ inside-found (suc n) text k h = elim (cases_Bool (is_placed text)) [
       let split : text ≡ take (prefix_len is_apart text) text ++ (f.piece ++ rest) =
       sym (take-append-drop (prefix_len is_apart text) text) ∙ ap (λ (t : List ℕ). take (prefix_len is_apart text) text ++ t) f.split in
       subst AreInside (sym split) (more (take (prefix_len is_apart text) text) f.piece rest (prefix-all is_apart text) f.is
-      (λ y z e i. longest-of first f.piece rest y z (f.split ∙ e) f.split refl i) each)
+      (λ y z e i. omega (arith, partial-max y z i, ap (λ t. length (behind_partial t)) (f.split ∙ e), ap length e, length-append y z, length-append f.piece rest)) each)
 ]
-  where
-    longest-of : (first piece rest y z : List ℕ) → first ≡ y ++ z → first ≡ piece ++ rest → rest ≡ behind_partial first → IsInside y
-        → length y ≤ length piece
-    longest-of first piece rest y z e f g i =
-        omega (arith, partial-max y z i, ap (λ t. length (behind_partial t)) e, ap length g, ap length e, ap length f, length-append y z, length-append piece rest)
 
 -- the longest one is what is read
 longest-read : (x rest : List ℕ) → IsInside x → ((y z : List ℕ) → x ++ rest ≡ y ++ z → IsInside y → length y ≤ length x) → behind_partial (x ++ rest) ≡ rest
@@ -115,12 +106,8 @@ inside-read text none = nil-inside
 inside-read text (more front x rest h i longest k) =
     let starts = inside-starts x rest i in
     let first : from_place (front ++ (x ++ rest)) ≡ x ++ rest = run-exact is_apart front (x ++ rest) h (starts-apart (x ++ rest) starts) in
-    let on : is_placed (front ++ (x ++ rest)) ≡ true = rw first (some-of (x ++ rest) starts) in
+    let on : is_placed (front ++ (x ++ rest)) ≡ true = rw first (grind arith) in
     go (front ++ (x ++ rest)) on ∙ rw (first, longest-read x rest i longest) (inside-read rest k)
-  where
-    some-of : (t : List ℕ) → starts_place t ≡ true → not (is_empty t) ≡ true
-    some-of [] h = cc h
-    some-of (c ∷ t) h = refl
 
 -- ---- pieces
 

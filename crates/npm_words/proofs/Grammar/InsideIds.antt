@@ -31,9 +31,8 @@ class-char c b h = grind (arith, digit-char b)
 
 -- an identifier goes on with its characters, and strictly one `0` alone begins with it
 good-is : (strict : Bool) (c : ℕ) (id : List ℕ) → is_good strict (c ∷ id) ≡ (list_all (class c) (c ∷ id) && (not (strict && (c == 48)) || is_empty id))
-good-is strict c [] = grind (arith, nat_tests, common_steps, digit-char c)
-good-is strict c (d ∷ id) =
-    let each = all_weaker is_ascii_digit is_identifier_char digit-char (c ∷ d ∷ id) in grind (arith, nat_tests, common_steps, digit-char c)
+good-is strict c id =
+    let each = all_weaker is_ascii_digit is_identifier_char digit-char id in grind (arith, nat_tests, common_steps, digit-char c)
 
 behind-is : (strict : Bool) (c : ℕ) (text : List ℕ)
     → behind_id strict (c ∷ text) ≡ (if strict && (c == 48) then text else drop (prefix_len (class c) (c ∷ text)) (c ∷ text))
@@ -61,8 +60,7 @@ good-behind strict (c ∷ id) rest h =
     ])
   where
     quiet : (rest : List ℕ) → begins is_identifier_char rest ≡ false → begins (class c) rest ≡ false
-    quiet [] q = refl
-    quiet (b ∷ rest) q = grind (arith, class-char c b)
+    quiet rest q = grind (arith, class-char c)
 
 pub id-le : (strict : Bool) (text : List ℕ) → length (behind_id strict text) ≤ length text
 unfolding behind_id
@@ -75,18 +73,9 @@ unfolding behind_ids
 ids-le zero strict text = omega arith
 ids-le (suc n) strict text = grind (arith, id-le strict text, length-drop, ids-le n strict (drop 1 (behind_id strict text)))
 
-step-le : (n : ℕ) (strict : Bool) (text : List ℕ) → length (behind_ids (suc n) strict text) ≤ length (behind_id strict text)
-unfolding behind_ids
-step-le n strict text = grind (arith, length-drop, ids-le n strict (drop 1 (behind_id strict text)))
-
 -- what stands behind a dot is shorter
-byte-some : (c : ℕ) (text : List ℕ) → begins_byte c text ≡ true → length (drop 1 text) < length text
-byte-some c text h = grind arith
-
 dot-less : (strict : Bool) (text : List ℕ) → begins_dotted_id (behind_id strict text) ≡ true → length (drop 1 (behind_id strict text)) < length text
-dot-less strict text h =
-    let rest = behind_id strict text in
-    omega (arith, byte-some 46 rest (and_parts (begins_byte 46 rest) (begins_identifier (drop 1 rest)) h).0, id-le strict text)
+dot-less strict text h = grind (arith, id-le strict text)
 
 -- ---- the loop
 
@@ -195,7 +184,7 @@ behind-each (suc n) strict (id ∷ []) rest h some k =
     let g = good-behind strict id rest (and_parts (is_good strict id) true h).0 in
     let quiet : goes_on rest ≡ false → (begins is_identifier_char rest ≡ false) × (begins_dotted_id rest ≡ false) = λ q. (grind arith, grind arith) in
     record {
-      le = omega (arith, step-le n strict (id ++ rest), g.le);
+      le = grind (arith, ids-step strict n (id ++ rest), length-drop, ids-le n strict (drop 1 (behind_id strict (id ++ rest))), g.le);
       exact = λ q. ids-step strict n (id ++ rest) ∙ rw (g.exact (quiet q).0, (quiet q).1) refl;
     }
 behind-each (suc n) strict (id ∷ p ∷ ps) rest h some k =

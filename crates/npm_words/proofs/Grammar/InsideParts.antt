@@ -33,9 +33,7 @@ fits-good strict ids list i f = each-good strict (pieces ids) ∙ rw (i.runs, f)
 good-fits : (strict : Bool) (ids : List ℕ) → are_good strict ids ≡ true → IsIdentifiers ids (listed ids) × (fits strict ids ≡ true)
 unfolding listed
 good-fits strict [] g = cc g
-good-fits strict (c ∷ ids) g =
-    let p = and_parts (list_all is_identifier (pieces (c ∷ ids))) (fits strict (c ∷ ids)) (sym (each-good strict (pieces (c ∷ ids))) ∙ g) in
-    (record { runs = p.0; spelled = refl }, p.1)
+good-fits strict (c ∷ ids) g = let each = each-good strict (pieces (c ∷ ids)) in (record { runs = grind arith; spelled = refl }, grind arith)
 
 -- ---- a pre-release
 
@@ -46,11 +44,8 @@ abbrev is_bare : Bool → List ℕ → Bool
 is_bare strict text = not strict && (begins is_ascii_alphabetic text || begins_byte 45 text)
 
 -- what is read is a pre-release
-abbrev PreAt : Bool → Bool → List ℕ → List ℕ → Type 0
-PreAt strict wild text rest = (pre : List ℕ) × (ids : List Id) × (text ≡ pre ++ rest) × (begins is_ascii_digit pre ≡ false)
-    × IsPreRelease (not strict) (strict && wild) (fits strict) pre ids
-
-pre-found : (strict wild : Bool) (text : List ℕ) → PreAt strict wild text (behind_pre_release strict text)
+pre-found : (strict wild : Bool) (text : List ℕ) → (pre : List ℕ) × (ids : List Id) × (text ≡ pre ++ behind_pre_release strict text)
+    × (begins is_ascii_digit pre ≡ false) × IsPreRelease (not strict) (strict && wild) (fits strict) pre ids
 unfolding behind_pre_release
 pre-found strict wild text = elim (cases_Bool (is_dashed text)) [
   | inl dash ↦
@@ -74,8 +69,7 @@ pre-found strict wild text = elim (cases_Bool (is_dashed text)) [
 
     bare-parts : (ids rest : List ℕ) → are_good strict ids ≡ true → (let all = ids ++ rest in begins is_ascii_alphabetic all || begins_byte 45 all) ≡ true
         → is_dashed (ids ++ rest) ≡ false → ((wild : Bool) → begins_undashed wild ids ≡ true) × (begins is_ascii_digit ids ≡ false)
-    bare-parts [] rest g h k = cc g
-    bare-parts (c ∷ ids) rest g h k = (λ wild. grind (arith, nat_tests), grind (arith, nat_tests))
+    bare-parts ids rest g h k = (λ wild. grind (arith, nat_tests), grind (arith, nat_tests))
 
 pre-le : (strict : Bool) (text : List ℕ) → length (behind_pre_release strict text) ≤ length text
 pre-le strict text =
@@ -188,10 +182,8 @@ single-part true c text h = elim (cases_Bool (c == 48)) [
   | inl null ↦ (Some (digits_value 10 (c ∷ [])), number (c ∷ []) _ (run-number (c ∷ []) (omega arith) (grind (arith, nat_tests))) refl refl)
 ]
 
-abbrev PlaceAt : Bool → List ℕ → List ℕ → Type 0
-PlaceAt strict text rest = (x : List ℕ) × (a : Option ℕ) × (text ≡ x ++ rest) × IsPart strict x a × (length rest < length text)
-
-place-found : (strict : Bool) (text : List ℕ) → starts strict text ≡ true → PlaceAt strict text (behind_place strict text)
+place-found : (strict : Bool) (text : List ℕ) → starts strict text ≡ true → (x : List ℕ) × (a : Option ℕ) × (text ≡ x ++ behind_place strict text)
+    × IsPart strict x a × (length (behind_place strict text) < length text)
 unfolding behind_place
 place-found strict [] h = cc (and-false strict, h)
 place-found strict (c ∷ text) h = elim (cases_Bool (is_single strict (c ∷ text))) [
@@ -320,23 +312,35 @@ partial-le : (strict : Bool) (text : List ℕ) (n : ℕ) → length (behind_plac
 unfolding behind_partial
 partial-le strict text n h = grind (arith, nat_tests)
 
--- no partial that stands there is longer
-pub partial-max : (text rest : List ℕ) → IsInside text → length (behind_partial (text ++ rest)) ≤ length rest
-partial-max text rest (version t v (written (c ∷ mark) x y z pre build w m i j k p b)) = cc m
-partial-max text rest (version t v (written [] x y z pre build w m i j k p b)) = rw (three-append x y z pre build rest) (partial-le false _ _
+-- a number or a wildcard is at the front
+abbrev pub starts_place : List ℕ → Bool
+starts_place text = begins is_ascii_digit text || begins_wildcard text
+
+-- a partial begins with a place, and no partial that stands there is longer
+reads : (text rest : List ℕ) → IsInside text → (starts_place (text ++ rest) ≡ true) × (length (behind_partial (text ++ rest)) ≤ length rest)
+reads text rest (version t v (written (c ∷ mark) x y z pre build w m i j k p b)) = cc m
+reads text rest (version t v (written [] x y z pre build w m i j k p b)) =
+    let first = (number-placed x _ i).begin (46 ∷ (y ++ 46 ∷ (z ++ (pre ++ (build ++ rest))))) in
+    rw (three-append x y z pre build rest) (grind arith, partial-le false _ _
     (three-max false false x y z pre build rest w.pre_release w.build (number-placed x _ i) (number-placed y _ j) (number-placed z _ k) p.1 p.0 b))
-partial-max text rest (partial t p (one x a h)) = partial-le true _ _ (omega (arith, one-le (x ++ rest), (place-placed x a h).max rest))
-partial-max text rest (partial t p (two x y a b h k)) =
-    rw (append_assoc x (46 ∷ y) rest) (partial-le true _ _ (two-max x y rest (place-placed x a h) (place-placed y b k)))
-partial-max text rest (partial t p (three x y z pre build a b c ids builds h k l m n g)) = rw (three-append x y z pre build rest) (partial-le true _ _
-    (three-max true (is_none c) x y z pre build rest ids builds (place-placed x a h) (place-placed y b k) (place-placed z c l) m (quiet m) n))
+reads text rest (partial t p (one x a h)) =
+    let place = place-placed x a h in (place.begin rest, partial-le true _ _ (omega (arith, one-le (x ++ rest), place.max rest)))
+reads text rest (partial t p (two x y a b h k)) =
+    let place = place-placed x a h in
+    rw (append_assoc x (46 ∷ y) rest) (place.begin (46 ∷ (y ++ rest)), partial-le true _ _ (two-max x y rest place (place-placed y b k)))
+reads text rest (partial t p (three x y z pre build a b c ids builds h k l m n g)) =
+    let place = place-placed x a h in
+    rw (three-append x y z pre build rest) (place.begin (46 ∷ (y ++ 46 ∷ (z ++ (pre ++ (build ++ rest))))), partial-le true _ _
+    (three-max true (is_none c) x y z pre build rest ids builds place (place-placed y b k) (place-placed z c l) m (quiet m) n))
   where
     quiet : {wild : Bool} {fits : List ℕ → Bool} {pre : List ℕ} {l : List Id} → IsPreRelease false wild fits pre l → begins is_ascii_digit pre ≡ false
     quiet h = grind (arith, nat_tests, common_steps)
 
--- a number or a wildcard is at the front
-abbrev pub starts_place : List ℕ → Bool
-starts_place text = begins is_ascii_digit text || begins_wildcard text
+pub inside-starts : (text rest : List ℕ) → IsInside text → starts_place (text ++ rest) ≡ true
+inside-starts text rest i = (reads text rest i).0
+
+pub partial-max : (text rest : List ℕ) → IsInside text → length (behind_partial (text ++ rest)) ≤ length rest
+partial-max text rest i = (reads text rest i).1
 
 -- something is read, and it is a partial
 pub partial-less : (text : List ℕ) → starts_place text ≡ true → length (behind_partial text) < length text
@@ -359,18 +363,6 @@ partial-found text h =
       ]
       | inr off ↦ absurd (omega (arith, partial-less text h, ap length is, ap length (nothing-read strict text h off)))
     ]
-
--- a partial begins with a place
-pub inside-starts : (text rest : List ℕ) → IsInside text → starts_place (text ++ rest) ≡ true
-inside-starts text rest (version t v (written [] x y z pre build w m i j k p q)) =
-    let tail = 46 ∷ (y ++ 46 ∷ (z ++ (pre ++ (build ++ rest)))) in
-    let first = (number-placed x _ i).begin tail in
-    rw (three-append x y z pre build rest) (grind arith)
-inside-starts text rest (version t v (written (c ∷ mark) x y z pre build w m i j k p q)) = cc m
-inside-starts text rest (partial t p (one x a h)) = (place-placed x a h).begin rest
-inside-starts text rest (partial t p (two x y a b h k)) = rw (append_assoc x (46 ∷ y) rest) ((place-placed x a h).begin (46 ∷ (y ++ rest)))
-inside-starts text rest (partial t p (three x y z pre build a b c ids builds h k l m n g)) =
-    rw (three-append x y z pre build rest) ((place-placed x a h).begin (46 ∷ (y ++ 46 ∷ (z ++ (pre ++ (build ++ rest))))))
 
 -- ---- the digits that count
 

@@ -92,7 +92,7 @@ upper-invalid c include p text h = grind (arith, nat_tests, common_steps, table-
 -- ---- numbers past the limit as the code has them
 
 capped-le : (n : ℕ) → nat_le (capped n) MAX_SAFE_INTEGER ≡ nat_le n MAX_SAFE_INTEGER
-capped-le n = elim (cases_Bool (nat_le n MAX_SAFE_INTEGER)) [ inl small ↦ rw small small | inr great ↦ rw great refl ]
+capped-le n = grind arith
 
 pub capped-within : (p : Partial) → within (first (capped_partial p)) ≡ within (first p)
 capped-within p = grind (arith, capped-le)

@@ -3,11 +3,11 @@
 use Rattle.npm_words.proofs.Common.{AreRead, Before, Bool, Bound, Bounds, Comparator, Comparison, IsCommon, IsNarrowed, List, MAX_LENGTH}
 use Rattle.npm_words.proofs.Common.{MAX_SAFE_INTEGER, None, Numbers, Option, Some, Span, Unbounded, VersionValue, [], ap, ap₂, are_normal, arith}
 use Rattle.npm_words.proofs.Common.{at_least, at_most, below, both_ways, bytes_eq, bytes_eq-Decides, caret_from, cases_Bool, codes, common_steps}
-use Rattle.npm_words.proofs.Common.{compared, cond_both, counted, counts, equal, false, filter-append, first, from, greater_lower, holds}
-use Rattle.npm_words.proofs.Common.{if◌then◌else◌, inl, inr, interval, is_empty, is_gt, is_interval, is_past, is_range_bound, is_readable, is_valid}
-use Rattle.npm_words.proofs.Common.{is_zero, length, lesser_upper, lets_in, list_all, lower_cut, map, nat_le, nat_tests, next_changed, not}
-use Rattle.npm_words.proofs.Common.{precedence, precedence_total, refl, sym, true, under, upper_cut, version_text, whole, within, ℕ, ◌&&◌, ◌++◌, ◌+◌}
-use Rattle.npm_words.{proofs.{Common.{◌||◌, ◌∙◌, ◌∷◌, ◌≡◌, ◌⊎◌}, Grammar.Printed.{from_valid, prints_zero, under_valid}}, specs.Alternatives.common}
+use Rattle.npm_words.proofs.Common.{compared, counted, counts, equal, false, filter-append, first, from, greater_lower, holds, if◌then◌else◌, inl}
+use Rattle.npm_words.proofs.Common.{inr, interval, is_empty, is_gt, is_interval, is_past, is_range_bound, is_readable, is_valid, is_zero, length}
+use Rattle.npm_words.proofs.Common.{lesser_upper, lets_in, list_all, lower_cut, map, nat_le, nat_tests, next_changed, not, precedence}
+use Rattle.npm_words.proofs.Common.{precedence_total, refl, sym, true, under, upper_cut, version_text, whole, within, ℕ, ◌&&◌, ◌++◌, ◌+◌, ◌||◌, ◌∙◌}
+use Rattle.npm_words.{proofs.{Common.{◌∷◌, ◌≡◌, ◌⊎◌}, Grammar.Printed.{from_valid, prints_zero, under_valid}}, specs.Alternatives.common}
 use Rattle.npm_words.specs.{Alternatives.satisfying, Internal.{Alternatives.met, Meaning.{common_in, is_part}, Parts.{AreZeros, has_no_comparators}}}
 use Rattle.npm_words.specs.{Internal.Parts.{is_padded, no_build, noted}, Table.{Partial, Sign, caret, lowest, next, table, tilde, unbuilt}}
 use Rattle.{npm_words.specs.Table.written_zeros, semver_core.proofs.CutLaws.{between, cut_total, gt_lt, is_past-greater_lower, is_past-lesser_upper}}
@@ -152,14 +152,10 @@ module _ (include padded : Bool) (v : VersionValue) where
   pub from_some : within (first (whole v)) ≡ true → are_normal (whole v) ≡ true
       → (include ≡ true) ⊎ (padded ≡ true) ⊎ (IsVersion v × (is_zero (no_build v) ≡ false)) → Reads (Spans.>= v) (noted padded low)
   from_some w n some =
-      cond_both (padded && bytes_eq low.text (codes "0.0.0")) (record low { text = codes "00.0.0" }) low
-      (λ c. counts include c ≡ true → Reads (Spans.>= v) c) (λ _. reads (codes "00.0.0")) (λ _. reads low.text) counted_low
-    where
-      reads : (text : List ℕ) → counts include (comparison at_least v text) ≡ true → Reads (Spans.>= v) (comparison at_least v text)
-      reads text h = one_common include at_least v text (whole_readable v w n) h
-
-      counted_low : counts include (noted padded low) ≡ true
-      counted_low = grind (arith, nat_tests, common_steps, zero_of)
+      let reads = λ (text : List ℕ). one_common include at_least v text (whole_readable v w n) in
+      let padded_reads = reads (codes "00.0.0") in
+      let plain_reads = reads low.text in
+      grind (arith, nat_tests, common_steps, zero_of)
 
 pub noted_valid : (padded : Bool) (c : Comparison) → is_valid MAX_SAFE_INTEGER (noted padded c) ≡ is_valid MAX_SAFE_INTEGER c
 noted_valid padded c = grind (arith, nat_tests, common_steps, bytes_eq-Decides)

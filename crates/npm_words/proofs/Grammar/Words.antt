@@ -120,8 +120,7 @@ signed-found loose include text w rest u h =
     let tests = and_parts (are_marks loose s.0 p.0.0 marks) (is_boundary p.0.1) t.0 in
     let part = places-found loose (drop n s.1) p.0.0 p.0.1 p.1 in
     let front = marks ++ part.piece in
-    let behind : s.1 ≡ front ++ p.0.1 =
-    sym (take-append-drop n s.1) ∙ ap (λ (t : List ℕ). marks ++ t) part.split ∙ sym (append_assoc marks part.piece p.0.1) in
+    let behind : s.1 ≡ front ++ p.0.1 = grind (arith, take-append-drop n s.1, append_assoc) in
     let front_is : whole_text ≡ front = ap (λ (t : List ℕ). take (length t - length p.0.1) t) behind ∙ front-text front p.0.1 in
     let all = at_sign.signs ++ front in
     let whole : text ≡ all ++ p.0.1 = at_sign.split ∙ ap (λ (t : List ℕ). at_sign.signs ++ t) behind ∙ sym (append_assoc at_sign.signs front p.0.1) in
@@ -197,8 +196,7 @@ first-found loose include text cs rest u some h = go (signed_word loose text) re
 words-step : (loose include : Bool) (n : ℕ) (text : List ℕ) → 0 < length text → words_within loose include (suc n) text
     ≡ (first_word loose include text >>? λ w. words_within loose include n w.1 >>? λ ds. Some (w.0 ∷ ds))
 unfolding words_within
-words-step loose include n [] some = absurd (omega (arith, some))
-words-step loose include n (b ∷ text) some = refl
+words-step loose include n text some = grind arith
 
 begins-longer : (loose include : Bool) (text rest : List ℕ) (cs : Option (List Comparison)) → IsUtf8 text → BeginsAs loose include text rest cs
     → 0 < length text
@@ -231,16 +229,13 @@ words-found loose include (suc n) (b ∷ text) all u h =
 -- the number only bounds the words
 pub words-enough : (loose include : Bool) (n m : ℕ) (text : List ℕ) → IsUtf8 text → length text ≤ n → length text ≤ m
     → words_within loose include n text ≡ words_within loose include m text
-words-enough loose include n m text u h k = elim (option-cases (words_within loose include n text)) [
-  | inr one ↦ one.1 ∙ sym (words-read loose include m text one.0 u (words-found loose include n text one.0 u one.1) k)
-  | inl e ↦ elim (option-cases (words_within loose include m text)) [
-    | inl f ↦ e ∙ sym f
-    | inr other ↦ cc (e, words-read loose include n text other.0 u (words-found loose include m text other.0 u other.1) h)
-  ]
-]
+words-enough loose include n m text u h k =
+    let as_many = λ (i j : ℕ) (le : length text ≤ j) (all : List (Option (List Comparison))) (e : words_within loose include i text ≡ Some all).
+    words-read loose include j text all u (words-found loose include i text all u e) le in
+    let one = option-cases (words_within loose include n text) in
+    let other = option-cases (words_within loose include m text) in
+    grind (arith, as_many n m k, as_many m n h)
 
 -- strictly no word is ignored
 pub strict-kept : (include : Bool) (text : List ℕ) (all : List (Option (List Comparison))) → AreWords false include text all → is_lost all ≡ false
-strict-kept include text all AreWords.none = refl
-strict-kept include text all (more t rest cs ds (formed partial behind es w short s) k) = grind (arith, nat_tests)
-strict-kept include text all (more t rest cs ds (ignored behind l some absent i s) k) = cc l
+strict-kept include text all h = grind (arith, nat_tests)

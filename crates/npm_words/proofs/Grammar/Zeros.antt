@@ -39,8 +39,7 @@ zeros-marked marks x h = zeros_counted (marks ++ x) _ (sym (run-behind no_digit 
 
 digits-zero : (digits : List ℕ) (n : ℕ) → IsNumber n digits n → has_leading_zero digits ≡ false → bytes_eq digits (codes "0") ≡ (n == 0)
 digits-zero [] n k h = absurd (omega (arith, k.some))
-digits-zero (c ∷ []) n k h = grind (arith, nat_tests, common_steps)
-digits-zero (c ∷ d ∷ digits) n k h = grind (arith, nat_tests, common_steps, and_parts, digits_grow)
+digits-zero (c ∷ digits) n k h = grind (arith, nat_tests, common_steps, and_parts, digits_grow)
 
 abbrev is_zero_place : Option ℕ → Bool
 is_zero_place a = elim a [ None ↦ false | Some n ↦ n == 0 ]
