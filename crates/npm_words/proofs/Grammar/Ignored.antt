@@ -25,10 +25,9 @@ taken-shorter : (text behind rest : List ℕ) (f : IsFirstBoundary text behind) 
 taken-shorter text behind rest f s h =
     omega (arith, ap length f.1, length-append f.0 behind, takes-some f.0 rest h, ap length s.1, length-append s.0 rest)
 
-module _ (text : List ℕ) (u : IsUtf8 text) where
-  behind-utf8 : (behind rest : List ℕ) (f : IsFirstBoundary text behind) → SkipsBlank behind rest → IsUtf8 behind × IsUtf8 rest
-  behind-utf8 behind rest f s =
-      let v = boundary-utf8 f.0 behind (subst (λ (t : List ℕ). IsUtf8 t) f.1 u) f.2 in (v, skips-utf8 behind rest s v)
+behind-utf8 : (text : List ℕ) → IsUtf8 text → (behind rest : List ℕ) (f : IsFirstBoundary text behind) → SkipsBlank behind rest → IsUtf8 behind × IsUtf8 rest
+behind-utf8 text u behind rest f s =
+    let v = boundary-utf8 f.0 behind (subst (λ (t : List ℕ). IsUtf8 t) f.1 u) f.2 in (v, skips-utf8 behind rest s v)
 
 -- where nothing is left, nothing is taken
 nil-left : (text end : List ℕ) → IsIgnored text end → length text ≤ 0 → end ≡ []

@@ -163,12 +163,8 @@ middle_short text middle u t h =
     let same : t.characters ≡ chars middle = chars_from_encodes t.characters middle (IsUtf8-from_ascii middle ascii) (sym t.middle_is) in
     grind (arith, nat_tests, common_steps, chars_from_encodes, chars-IsAscii, ascii, length-append)
 
-shorter : (a b c d e f p q m k : List ℕ) → a ≡ d → b ≡ e → c ≡ f → p ≡ q
-    → length (a ++ 46 ∷ (b ++ 46 ∷ (c ++ (p ++ [])))) ≤ length (m ++ (d ++ 46 ∷ (e ++ 46 ∷ (f ++ (q ++ k)))))
-shorter a b c d e f p q m k h g l n = rw (h, g, l, n) (grind (arith, length-append))
-
 printed_short : (text : List ℕ) (v : VersionValue) → IsStrictVersion MAX_SAFE_INTEGER text v → length (version_text (Parts.no_build v)) ≤ length text
-printed_short text v (written mark x y z pre build w m i j k p q) = grind (arith, nat_tests, common_steps, shorter, number_printed, pre_printed)
+printed_short text v (written mark x y z pre build w m i j k p q) = grind (arith, nat_tests, common_steps, number_printed, pre_printed, length-append)
 
 pub reread : (text : List ℕ) (v : VersionValue) → IsUtf8 text → IsVersionText MAX_SAFE_INTEGER text v
     → IsVersionText MAX_SAFE_INTEGER (version_text (Parts.no_build v)) (Parts.no_build v)
