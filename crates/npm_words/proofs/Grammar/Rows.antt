@@ -32,15 +32,12 @@ everything = record { lower = Unbounded; upper = Unbounded }
 open_upper : (b : Bound VersionValue) → greater_lower precedence b Unbounded ≡ b
 open_upper b = grind arith
 
-common-one : (s : Span VersionValue) → both s everything ≡ s
-common-one s = grind arith
-
 -- the bounds are of that version, whose numbers may be greater by one
 pub one_common : (include : Bool) (c : Comparator) (w : VersionValue) (text : List ℕ)
     → is_readable MAX_SAFE_INTEGER w ≡ true → counts include (comparison c w text) ≡ true
     → IsCommon include (comparison c w text ∷ []) (satisfying (comparison c w text))
 one_common include c w text r h = record {
-  is = rw h (sym (common-one (satisfying (comparison c w text))));
+  is = rw h (grind arith);
   lower = grind (arith, nat_tests, common_steps);
   upper = grind (arith, nat_tests, common_steps);
 }

@@ -217,14 +217,13 @@ words-read loose include (suc n) text all u (more t rest cs ds h k) le =
 pub words-found : (loose include : Bool) (n : ℕ) (text : List ℕ) (all : List (Option (List Comparison))) → IsUtf8 text
     → words_within loose include n text ≡ Some all → AreWords loose include text all
 unfolding words_within
-words-found loose include n [] all u h = subst (λ (l : List (Option (List Comparison))). AreWords loose include [] l) (same_Some _ _ h) AreWords.none
+words-found loose include n [] all u h = rw (← same_Some _ _ h) AreWords.none
 words-found loose include zero (b ∷ text) all u h = cc h
 words-found loose include (suc n) (b ∷ text) all u h =
     let w = bind_some (first_word loose include (b ∷ text)) _ all h in
     let d = bind_some (words_within loose include n w.0.1) (λ ds. Some (w.0.0 ∷ ds)) all w.2 in
     let f = first-found loose include (b ∷ text) w.0.0 w.0.1 u (omega arith) w.1 in
-    subst (λ (l : List (Option (List Comparison))). AreWords loose include (b ∷ text) l) (same_Some _ _ d.2)
-    (more (b ∷ text) w.0.1 w.0.0 d.0 f.is (words-found loose include n w.0.1 d.0 f.utf8 d.1))
+    rw (← same_Some _ _ d.2) (more (b ∷ text) w.0.1 w.0.0 d.0 f.is (words-found loose include n w.0.1 d.0 f.utf8 d.1))
 
 -- the number only bounds the words
 pub words-enough : (loose include : Bool) (n m : ℕ) (text : List ℕ) → IsUtf8 text → length text ≤ n → length text ≤ m
