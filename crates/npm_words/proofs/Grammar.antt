@@ -8,6 +8,7 @@ pub mod InsideParts
 pub mod PartialLaw
 pub mod Printed
 pub mod Rows
+pub mod Runs
 pub mod Signs
 pub mod VersionLaw
 pub mod Words

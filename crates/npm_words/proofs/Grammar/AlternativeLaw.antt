@@ -3,13 +3,13 @@ use Rattle.npm_words.proofs.Common.{AllByRecursion, AreAlternatives, Bool, Compa
 use Rattle.npm_words.proofs.Common.{List, None, Option, Signed, Some, [], alternative_of, alternatives_of, and_parts, ap, are_normal, arith}
 use Rattle.npm_words.proofs.Common.{bind_some, capped_in, capped_partial, cases_Bool, common_steps, cond_some, drop, false, first_as, hyphen_ends}
 use Rattle.npm_words.proofs.Common.{inl, inr, is_empty, is_free_lower, is_free_upper, is_mark, is_right, is_valid, kept, length, length-drop}
-use Rattle.npm_words.proofs.Common.{list_all, lower_of, map, marks_len, middle_is_trim, nat_tests, prefix_len, refl, same_Some, signed_word, subst}
-use Rattle.npm_words.proofs.Common.{suc, sym, take, take_rest, trim, trim_is_middle, true, upper_of, words_of_all, words_within, ℕ, ◌&&◌, ◌++◌, ◌+◌}
-use Rattle.npm_words.proofs.{Common.{◌-◌, ◌↔◌, ◌∙◌, ◌∷◌, ◌≡◌, ◌≤◌}, Grammar.Hyphens.{ended_of, front-normal, hyphen-found, hyphen-read}}
-use Rattle.npm_words.proofs.Grammar.{Hyphens.{normal-capped, partial-le, right-end}, PartialLaw.{front-as, prefix-all}, Words.words-found}
-use Rattle.npm_words.{proofs.Grammar.Words.words-read, specs.{Internal.Words.{hyphen_or, npm_alternatives, places_front}, RangeText.{hyphen, next}}}
-use Rattle.{npm_words.specs.{RangeText.words, Table.Partial}, semver_core.proofs.Dividing.BarsDivide.{bars_divide, bars_once, pieces-utf8}}
-use Rattle.semver_core.proofs.Reading.{Boundaries.{tail-utf8, trim-utf8}, Steps.option-cases}
+use Rattle.npm_words.proofs.Common.{list_all, map, marks_len, middle_is_trim, nat_tests, prefix_len, refl, same_Some, signed_word, suc, sym, take}
+use Rattle.npm_words.proofs.Common.{take_rest, trim, trim_is_middle, true, words_of_all, words_within, ℕ, ◌&&◌, ◌+◌, ◌-◌, ◌↔◌, ◌∙◌, ◌∷◌, ◌≡◌, ◌≤◌}
+use Rattle.npm_words.proofs.Grammar.Hyphens.{ended_of, ends_of, front-normal, hyphen-found, hyphen-read, normal-capped, partial-le, right-end}
+use Rattle.npm_words.{proofs.Grammar.{PartialLaw.{front-as, prefix-all}, Words.{words-found, words-read}}, specs.Internal.Words.hyphen_or}
+use Rattle.npm_words.specs.{Internal.Words.{npm_alternatives, places_front}, RangeText.{hyphen, next, words}, Table.Partial}
+use Rattle.semver_core.proofs.{Dividing.BarsDivide.{bars_divide, bars_once, pieces-utf8}, Reading.Boundaries.{tail-utf8, trim-utf8}}
+use Rattle.semver_core.proofs.Reading.Steps.{option-cases}
 
 -- ---- marks
 
@@ -66,17 +66,16 @@ alternative-found loose include text a u h = go (hyphen_ends loose text) refl h
     go : (o : Option (Ended × Ended)) → hyphen_ends loose text ≡ o → hyphen_or loose include text o ≡ Some a → IsAlternative loose include text a.0 a.1
     go (Some e) k l =
         let f = hyphen-found loose text e u k in
-        let t = cond_some (is_right loose is_free_lower e.0 && is_right loose (is_free_upper include) e.1) _ a l in
-        let both = and_parts (is_right loose is_free_lower e.0) (is_right loose (is_free_upper include) e.1) t.0 in
-        let lower = sym (right-end loose (λ v. false) text f.0.before f.0.lower) ∙ ap (λ (x : Ended × Ended). is_right loose is_free_lower x.0) (sym f.1) ∙ both.0 in
-        let upper = sym (right-end loose _ f.0.second [] f.0.upper) ∙ ap (λ (x : Ended × Ended). is_right loose (is_free_upper include) x.1) (sym f.1) ∙ both.1 in
-        subst (λ (r : Bool × List Comparison). IsAlternative loose include text r.0 r.1)
-        (ap (λ (x : Ended × Ended). (false, lower_of include x.0 ++ upper_of include x.1)) (sym f.1) ∙ t.1) (hyphen text f.0 lower upper)
+        let ends = ends_of loose text f.0 in
+        let t = cond_some (is_right loose is_free_lower ends.0 && is_right loose (is_free_upper include) ends.1) _ a (rw f.1 at l) in
+        let both = and_parts (is_right loose is_free_lower ends.0) (is_right loose (is_free_upper include) ends.1) t.0 in
+        let lower = sym (right-end loose (λ v. false) text f.0.before f.0.lower) ∙ both.0 in
+        let upper = sym (right-end loose _ f.0.second [] f.0.upper) ∙ both.1 in
+        rw (← t.1) (hyphen text f.0 lower upper)
     go None k l =
         let w = bind_some (words_within loose include (length text) text) (λ all. Some (words_of_all all)) a l in
         let absent : IsHyphen loose text → ⊥ = λ h. cc (k, hyphen-read loose text u h) in
-        subst (λ (r : Bool × List Comparison). IsAlternative loose include text r.0 r.1) (same_Some _ _ w.2)
-        (words text w.0 absent (words-found loose include (length text) text w.0 u w.1))
+        rw (← same_Some _ _ w.2) (words text w.0 absent (words-found loose include (length text) text w.0 u w.1))
 
 -- ---- range texts as node-semver reads them: the function that reads the alternatives finds exactly what the statement has
 
@@ -92,7 +91,7 @@ each-read loose include pieces ls u (next piece text others lost cs rest is is_t
 each-found : (loose include : Bool) (pieces : List (List ℕ)) (ls : List (List Comparison)) → AllByRecursion IsUtf8 pieces
     → alternatives_of loose include (map trim pieces) ≡ Some ls → AreAlternatives loose include pieces ls
 unfolding alternatives_of
-each-found loose include [] ls u h = subst (λ (l : List (List Comparison)). AreAlternatives loose include [] l) (same_Some _ _ h) AreAlternatives.none
+each-found loose include [] ls u h = rw (← same_Some _ _ h) AreAlternatives.none
 each-found loose include (piece ∷ others) ls u h =
     let a = bind_some (alternative_of loose include (trim piece)) _ ls h in
     let rest = bind_some (alternatives_of loose include (map trim others)) (λ rest. Some (kept a.0 rest)) ls a.2 in

@@ -1,24 +1,25 @@
 -- Hyphen ranges of node-semver's range texts: the functions that read them find exactly what the statement has, and the code those whose
 -- numbers that count are up to the limit.
-use Rattle.npm_words.proofs.Common.{AreMarks, AreWords, Bool, Comparison, Ended, Id, IsEnd, IsHyphen, IsPlaces, IsStrictBuild, IsUtf8, IsWord, List, empty_is}
-use Rattle.npm_words.proofs.Common.{MAX_SAFE_INTEGER, None, Option, Some, VersionValue, [], after_byte, after_ends, all_weaker, and_parts, ap}
-use Rattle.npm_words.proofs.Common.{append_assoc, ap₂, are_marks, are_normal, are_whole_marks, arith, begins, bind_some, capped_in, capped_partial}
-use Rattle.npm_words.proofs.Common.{cases_Bool, common_steps, compared, cond_some, drop, drop_at, drop_ends, drop_spaces, encode_utf8}
-use Rattle.npm_words.proofs.Common.{encode_utf8_all, end_front, ended_as, false, first_as, get_or, hyphen_ends, hyphen_of, if◌then◌else◌, inl, inr}
-use Rattle.npm_words.proofs.Common.{is_empty, is_free, is_free_lower, is_free_upper, is_mark, is_right, is_right_end, is_short, is_short_word}
-use Rattle.npm_words.proofs.Common.{is_valid, is_whitespace, last_end, last_marks, le-ltb, len_utf8, len_utf8_bounds, length, length-append}
-use Rattle.npm_words.proofs.Common.{length-drop, length-encode, list_all, list_all-append, lower_of, lt-ltb, nat_tests, no_build, not, plus}
-use Rattle.npm_words.proofs.Common.{prefix_len, refl, same_Some, space_len, space_len-nil, subst, suc, sym, take, true, upper_of, zero, ℕ, ◌&&◌, ◌++◌}
-use Rattle.npm_words.proofs.{Common.{◌+◌, ◌-◌, ◌<◌, ◌==◌, ◌>>?◌, ◌||◌, ◌∙◌, ◌∷◌, ◌≡◌, ◌≤◌}, Grammar.Characters.{is_signal, sign-signal}}
-use Rattle.npm_words.proofs.Grammar.{InsideIds.run-exact, PartialLaw.{boundary-quiet, front-text, places-found, places-read}, Printed.{capped-valid, lower-invalid}}
-use Rattle.npm_words.proofs.Grammar.{Printed.{upper-invalid, valid-same}, Signs.marks-all, Words.{marks-dropped, places-begin}}
-use Rattle.npm_words.specs.{Grammar.IsPreRelease, Internal.{Reads.valid_one, Words.{after_dash, end_len, places_front}}, RangeText.{formed, ignored}}
-use Rattle.{npm_words.specs.{RangeText.more, Table.{Partial, whole}}, semver_core.proofs.{Normal.identifiers-normal, Reading.Boundaries.blank-len}}
-use Rattle.semver_core.proofs.Reading.Boundaries.{boundary-of, boundary-utf8, byte-is, front-dark, skips-of, skips-utf8, some_space-is, tail-utf8}
-use Rattle.semver_core.proofs.{Reading.Bytes.{all-join, begins_component, is_component_byte, is_solid}, Text.SpaceLaw.front_is_first_character}
+use Rattle.npm_words.proofs.Common.{AreMarks, AreWords, Bool, Comparison, Ended, Id, IsEnd, IsHyphen, IsPlaces, IsStrictBuild, IsUtf8, IsWord, List}
+use Rattle.npm_words.proofs.Common.{MAX_SAFE_INTEGER, Option, Some, VersionValue, [], after_byte, after_ends, all_weaker, and_parts, ap, append_assoc}
+use Rattle.npm_words.proofs.Common.{ap₂, are_marks, are_normal, are_whole_marks, arith, begins, bind_some, capped_in, capped_partial, cases_Bool}
+use Rattle.npm_words.proofs.Common.{common_steps, compared, cond_some, drop, drop_at, drop_ends, drop_spaces, empty_is, encode_utf8, encode_utf8_all}
+use Rattle.npm_words.proofs.Common.{end_front, ended_as, false, first_as, get_or, hyphen_ends, hyphen_of, if◌then◌else◌, inl, inr, is_empty, is_free}
+use Rattle.npm_words.proofs.Common.{is_free_lower, is_free_upper, is_mark, is_right, is_right_end, is_short, is_short_word, is_valid, is_whitespace}
+use Rattle.npm_words.proofs.Common.{last_end, last_marks, le-ltb, len_utf8, len_utf8_bounds, length, length-append, length-drop, length-encode}
+use Rattle.npm_words.proofs.Common.{list_all, list_all-append, lower_of, lt-ltb, nat_tests, not, prefix_len, refl, same_Some, space_len}
+use Rattle.npm_words.proofs.Common.{space_len-nil, subst, suc, sym, take, true, upper_of, zero, ℕ, ◌&&◌, ◌++◌, ◌+◌, ◌-◌, ◌<◌, ◌==◌, ◌>>?◌, ◌||◌, ◌∙◌}
+use Rattle.npm_words.proofs.{Common.{◌∷◌, ◌≡◌, ◌≤◌}, Grammar.{Characters.{is_signal, sign-signal}, PartialLaw.{boundary-quiet, front-text}}}
+use Rattle.npm_words.proofs.Grammar.{PartialLaw.{places-found, places-read}, Printed.{capped-valid, lower-invalid, upper-invalid, valid-same}}
+use Rattle.npm_words.{proofs.Grammar.{Runs.run-exact, Signs.marks-all, Words.{marks-dropped, places-begin}}, specs.Grammar.IsPreRelease}
+use Rattle.npm_words.specs.{Internal.{Reads.valid_one, Words.{after_dash, end_len, places_front}}, RangeText.{formed, ignored, more}, Table.Partial}
+use Rattle.{npm_words.specs.Table.whole, semver_core.proofs.{Normal.identifiers-normal, Reading.Boundaries.{blank-len, boundary-of, boundary-utf8}}}
+use Rattle.semver_core.proofs.Reading.{Boundaries.{byte-is, front-dark, skips-of, skips-utf8, some_space-is, tail-utf8}, Bytes.all-join}
+use Rattle.semver_core.proofs.{Reading.Bytes.{begins_component, is_component_byte, is_solid}, Text.SpaceLaw.front_is_first_character}
 use Rattle.semver_core.specs.{Internal.Boundaries.after_some_space, Printing.RoundTrip.is_normal, Text.Boundaries.SkipsBlank}
-use Rattle.{semver_core.specs.Text.{Characters.BeginsBlank, Comparators.equal}, std.proofs.lemmas.List.{get_or-drop, get_or-reverse}}
-use Rattle.std.{proofs.lemmas.List.Sums.{list_all-from_AllPass, prefix_len_passes, suffix_len-le-length}, specs.{List.suffix_len, Prelude.reverse}}
+use Rattle.{semver_core.specs.Text.{Characters.BeginsBlank, Comparators.equal}, std.proofs.lemmas.List.Sums.list_all-from_AllPass}
+use Rattle.std.{proofs.lemmas.List.{Sums.{prefix_len_passes, suffix_len-le-length}, get_or-drop, get_or-reverse}, specs.List.suffix_len}
+use Rattle.std.specs.Prelude.{reverse}
 
 -- ---- marks and whitespace at the front
 
@@ -109,10 +110,7 @@ end-found loose text e u h =
     let whole : text ≡ marks ++ (f.piece ++ p.0.1) = m.split ∙ ap (λ (t : List ℕ). marks ++ t) f.split in
     let are : AreMarks marks = (m.characters, refl, m.each) in
     let is : IsEnd loose text p.0.1 = record { marks = marks; places = f.piece; partial = p.0.0; divided = whole; are = are; is = f.is } in
-    subst (EndRead loose text) (same_Some (ended_as text (drop_ends text) p.0) e p.2) (
-      is,
-      ap₂ (λ (m x : List ℕ). (m, p.0.0, last_marks m ++ x)) (front-is text marks (drop_ends text) m.split) (front-is (drop_ends text) f.piece p.0.1 f.split),
-    )
+    subst (EndRead loose text) (same_Some (ended_as text (drop_ends text) p.0) e p.2) (is, grind (arith, front-is))
 
 -- ---- hyphen ranges
 
@@ -208,13 +206,7 @@ hyphen-capped loose include a b =
     (capped-valid lower (λ p. lower-invalid _ include p a.2) a.1, λ h. ap lower (valid-same lower (λ p. lower-invalid _ include p a.2) a.1 h)) in
     let up : AreValidAs (upper (capped_partial b.1)) (upper b.1) =
     (capped-valid upper (λ p. upper-invalid _ include p b.2) b.1, λ h. ap upper (valid-same upper (λ p. upper-invalid _ include p b.2) b.1 h)) in
-    rw ((free-capped include a.1).0, (free-capped include b.1).1)
-    (when (is_right loose is_free_lower a && is_right loose (is_free_upper include) b) _ _ (joined-valid _ _ _ _ low up))
-  where
-    when : (r : Bool) (x y : Bool × List Comparison) → valid_one x ≡ valid_one y
-        → ((if r then Some x else None) >>? valid_one) ≡ ((if r then Some y else None) >>? valid_one)
-    when true x y h = h
-    when false x y h = refl
+    rw ((free-capped include a.1).0, (free-capped include b.1).1) (grind (arith, joined-valid _ _ _ _ low up))
 
 -- ---- the identifiers are in normal form
 
@@ -222,8 +214,7 @@ pre-normal : (loose wild : Bool) (fits : List ℕ → Bool) (text : List ℕ) (i
 pre-normal loose wild fits text ids h = grind (arith, nat_tests, common_steps, identifiers-normal)
 
 build-normal : (text : List ℕ) (ids : List Id) → IsStrictBuild text ids → list_all is_normal ids ≡ true
-build-normal text ids no_build = refl
-build-normal text ids (plus t list h) = identifiers-normal t list h
+build-normal text ids h = grind (arith, identifiers-normal)
 
 pub places-normal : (loose : Bool) (text : List ℕ) (p : Partial) → IsPlaces loose text p → are_normal p ≡ true
 places-normal loose text p h = grind (arith, nat_tests, common_steps, pre-normal, build-normal)
@@ -288,12 +279,10 @@ marks-front (c ∷ cs) h = grind (arith, nat_tests, common_steps, and_parts, all
 abbrev pub WordFront : List ℕ → List ℕ → Type 0
 WordFront text behind = (x : List ℕ) × (p : Partial) × IsPlaces false x p × (drop (prefix_len is_front text) text ≡ x ++ behind)
 
-front-first : (u : List ℕ) → begins_component u ≡ true → begins is_front u ≡ false
-front-first u h = grind arith
-
 front-of : (text front x behind : List ℕ) (p : Partial) → text ≡ front ++ (x ++ behind) → list_all is_front front ≡ true → IsPlaces false x p
     → WordFront text behind
-front-of text front x behind p e h k = (x, p, k, rw e (run-exact is_front front _ h (front-first (x ++ behind) (places-begin false x behind p k))))
+front-of text front x behind p e h k =
+    let first = places-begin false x behind p k in (x, p, k, rw e (run-exact is_front front _ h (grind arith)))
 
 end-at : (text before : List ℕ) → IsEnd false text before → WordFront text before
 end-at text before h = front-of text h.marks h.places before h.partial h.divided (rw h.are.1 (marks-front h.are.0 h.are.2)) h.is

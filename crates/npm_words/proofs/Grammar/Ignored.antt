@@ -1,11 +1,12 @@
 -- How far a malformed word goes: the function that looks for its end finds exactly what the statement has.
-use Rattle.npm_words.proofs.Common.{IsIgnored, IsUtf8, List, [], ap, arith, behind_ignored, cases_Bool, drop_spaces, encode_utf8, false}
+use Rattle.npm_words.proofs.Common.{Bool, IsIgnored, IsUtf8, List, [], ap, arith, behind_ignored, cases_Bool, drop_spaces, encode_utf8, false}
 use Rattle.npm_words.proofs.Common.{from_boundary, if◌then◌else◌, inl, inr, is_boundary, len_utf8_bounds, length, length-append, length-encode}
-use Rattle.npm_words.proofs.Common.{length-take-le, nat_lt, nat_tests, refl, space_len, subst, suc, sym, take, true, zero, ℕ, ◌++◌, ◌-◌, ◌<◌, ◌∙◌}
-use Rattle.npm_words.proofs.{Common.{◌∷◌, ◌≡◌, ◌≤◌}, Grammar.{Inside.{not-taken, taken-found, taken-not, taken-read}, PartialLaw.front-text}}
-use Rattle.npm_words.{proofs.Grammar.Signs.{blank-at, blank-nil}, specs.{Internal.Words.takes_on, Malformed.{goes_on, stops}}}
-use Rattle.semver_core.proofs.Reading.Boundaries.{boundary-le, boundary-utf8, first-is, first-of, skips-is, skips-of, skips-utf8, spaces-gone, spaces-le}
-use Rattle.semver_core.specs.Text.{Boundaries.{IsBoundary, IsFirstBoundary, SkipsBlank}, Characters.BeginsBlank}
+use Rattle.npm_words.proofs.Common.{length-take-le, nat_tests, refl, space_len, subst, suc, sym, take, true, zero, ℕ, ◌++◌, ◌-◌, ◌<◌, ◌∙◌, ◌∷◌, ◌≡◌}
+use Rattle.npm_words.proofs.{Common.◌≤◌, Grammar.{Inside.{not-taken, taken-found, taken-not, taken-read}, PartialLaw.front-text, Runs.steps-go}}
+use Rattle.npm_words.{proofs.Grammar.{Runs.steps-stop, Signs.{blank-at, blank-nil}}, specs.{Internal.Words.takes_on, Malformed.{goes_on, stops}}}
+use Rattle.semver_core.proofs.Reading.Boundaries.{boundary-le, boundary-utf8, first-is, first-of, skips-is, skips-of, skips-utf8, spaces-gone}
+use Rattle.semver_core.{proofs.Reading.Boundaries.spaces-le, specs.Text.Boundaries.{IsBoundary, IsFirstBoundary, SkipsBlank}}
+use Rattle.semver_core.specs.Text.Characters.{BeginsBlank}
 
 nil-of : (text : List ℕ) → length text ≤ 0 → text ≡ []
 nil-of [] le = refl
@@ -13,8 +14,7 @@ nil-of (b ∷ text) le = absurd (omega (arith, le))
 
 takes-some : (piece rest : List ℕ) → takes_on piece rest ≡ true → 0 < length piece
 unfolding takes_on
-takes-some [] rest h = cc h
-takes-some (b ∷ piece) rest h = omega arith
+takes-some piece rest h = grind arith
 
 -- a piece is what stands before the boundary
 piece-is : (text behind : List ℕ) (f : IsFirstBoundary text behind) → take (length text - length behind) text ≡ f.0
@@ -25,10 +25,9 @@ taken-shorter : (text behind rest : List ℕ) (f : IsFirstBoundary text behind) 
 taken-shorter text behind rest f s h =
     omega (arith, ap length f.1, length-append f.0 behind, takes-some f.0 rest h, ap length s.1, length-append s.0 rest)
 
-module _ (text : List ℕ) (u : IsUtf8 text) where
-  behind-utf8 : (behind rest : List ℕ) (f : IsFirstBoundary text behind) → SkipsBlank behind rest → IsUtf8 behind × IsUtf8 rest
-  behind-utf8 behind rest f s =
-      let v = boundary-utf8 f.0 behind (subst (λ (t : List ℕ). IsUtf8 t) f.1 u) f.2 in (v, skips-utf8 behind rest s v)
+behind-utf8 : (text : List ℕ) → IsUtf8 text → (behind rest : List ℕ) (f : IsFirstBoundary text behind) → SkipsBlank behind rest → IsUtf8 behind × IsUtf8 rest
+behind-utf8 text u behind rest f s =
+    let v = boundary-utf8 f.0 behind (subst (λ (t : List ℕ). IsUtf8 t) f.1 u) f.2 in (v, skips-utf8 behind rest s v)
 
 -- where nothing is left, nothing is taken
 nil-left : (text end : List ℕ) → IsIgnored text end → length text ≤ 0 → end ≡ []
@@ -61,10 +60,7 @@ spaces-less text u some =
 boundary-less : (text : List ℕ) → IsUtf8 text → 0 < length text → length (drop_spaces (from_boundary text)) < length text
 unfolding from_boundary is_boundary
 boundary-less [] u some = absurd (omega (arith, some))
-boundary-less (b ∷ text) u some = elim (cases_Bool (nat_lt 0 (space_len (b ∷ text)))) [
-  | inl here ↦ grind (arith, here, nat_tests, spaces-less (b ∷ text) u)
-  | inr on ↦ grind (arith, on, spaces-le (from_boundary text), boundary-le text)
-]
+boundary-less (b ∷ text) u some = grind (arith, nat_tests, spaces-less (b ∷ text) u, spaces-le (from_boundary text), boundary-le text)
 
 pub record IgnoredAt (text end : List ℕ) : Type 0 where
   pub is : IsIgnored text end
@@ -80,7 +76,8 @@ nil-ignored : (text : List ℕ) → IsUtf8 text → length text ≤ 0 → Ignore
 unfolding takes_on
 nil-ignored [] u le =
     let f : IsFirstBoundary [] [] = ([], refl, inl refl, λ x y e h. omega arith) in
-    record { is = stops [] [] [] f ([], refl, blank-nil, no-blank) (not-taken [] [] refl); ended = inl refl; utf8 = u; fits = omega arith; less = λ some. omega (arith, some) }
+    let is = stops [] [] [] f ([], refl, blank-nil, no-blank) (not-taken [] [] refl) in
+    record { is = is; ended = inl refl; utf8 = u; fits = omega arith; less = λ some. omega (arith, some) }
 nil-ignored (b ∷ text) u le = absurd (omega (arith, le))
 
 pub ignored-found : (n : ℕ) (text : List ℕ) → IsUtf8 text → length text ≤ n → IgnoredAt text (behind_ignored n text)
@@ -114,40 +111,29 @@ ignored-found (suc n) text u le =
 
 -- ---- the loop that looks for the end
 
--- what is taken is shorter
-taken-less : (text : List ℕ) (n : ℕ) → n ≡ length text - length (from_boundary text)
-    → takes_on (take n text) (drop_spaces (from_boundary text)) ≡ true → length (drop_spaces (from_boundary text)) < length text
-taken-less text n e h =
-    omega (arith, e, takes-some (take n text) (drop_spaces (from_boundary text)) h, length-take-le n text, spaces-le (from_boundary text), boundary-le text)
+-- what stands behind the first piece belongs to it
+abbrev goes : List ℕ → Bool
+goes text = takes_on (take (length text - length (from_boundary text)) text) (drop_spaces (from_boundary text))
 
--- the number only bounds the pieces
-enough : (n m : ℕ) (text : List ℕ) → length text ≤ n → length text ≤ m → behind_ignored n text ≡ behind_ignored m text
-unfolding behind_ignored from_boundary takes_on
-enough zero zero text h k = refl
-enough zero (suc m) text h k = rw (nil-of text h) refl
-enough (suc n) zero text h k = rw (nil-of text k) refl
-enough (suc n) (suc m) text h k = elim (cases_Bool (takes_on (take (length text - length (from_boundary text)) text) (drop_spaces (from_boundary text)))) [
-  | inr stop ↦ rw stop refl
-  | inl go ↦
-      let less = taken-less text _ refl go in
-      rw go (enough n m (drop_spaces (from_boundary text)) (omega (arith, less, h)) (omega (arith, less, k)))
-]
+taken-less : (text : List ℕ) → goes text ≡ true → length (drop_spaces (from_boundary text)) < length text
+taken-less text h =
+    let n = length text - length (from_boundary text) in
+    omega (arith, takes-some (take n text) (drop_spaces (from_boundary text)) h, length-take-le n text, spaces-le (from_boundary text), boundary-le text)
 
-step : (n : ℕ) (text : List ℕ) → behind_ignored (suc n) text ≡ (let rest = drop_spaces (from_boundary text) in
-    if takes_on (take (length text - length (from_boundary text)) text) rest then behind_ignored n rest else from_boundary text)
+nil-end : behind_ignored 0 [] ≡ from_boundary []
+unfolding behind_ignored from_boundary
+nil-end = refl
+
+step : (n : ℕ) (text : List ℕ) → behind_ignored (suc n) text ≡ (if goes text then behind_ignored n (drop_spaces (from_boundary text)) else from_boundary text)
 unfolding behind_ignored
 step n text = refl
 
 module _ (text behind next : List ℕ) (e : behind ≡ from_boundary text) (f : next ≡ drop_spaces behind) where
-  more : behind_ignored (length text) text
-      ≡ (if takes_on (take (length text - length behind) text) next then behind_ignored (length text) next else behind)
-  more = rw (f, e) (enough (length text) (suc (length text)) text (omega arith) (omega arith) ∙ step (length text) text)
-
   pub piece-stops : takes_on (take (length text - length behind) text) next ≡ false → behind ≡ behind_ignored (length text) text
-  piece-stops h = sym (more ∙ rw h refl)
+  piece-stops h = e ∙ sym (steps-stop behind_ignored _ _ _ nil-end step taken-less text (rw (f, e) at h))
 
   pub piece-less : takes_on (take (length text - length behind) text) next ≡ true → length next < length text
-  piece-less h = rw (f, e) (taken-less text (length text - length (from_boundary text)) refl (rw (f, e) at h))
+  piece-less h = rw (f, e) (taken-less text (rw (f, e) at h))
 
   pub piece-goes : takes_on (take (length text - length behind) text) next ≡ true → behind_ignored (length text) text ≡ behind_ignored (length next) next
-  piece-goes h = more ∙ rw h (enough (length text) (length next) next (omega (arith, piece-less h)) (omega arith))
+  piece-goes h = rw (f, e) (steps-go behind_ignored _ _ _ nil-end step taken-less text (rw (f, e) at h))

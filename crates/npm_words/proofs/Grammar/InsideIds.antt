@@ -1,25 +1,12 @@
 -- The identifiers of a pre-release inside a malformed word: the longest list at the front of a text.
-use Rattle.npm_words.proofs.Common.{Bool, List, [], all_weaker, and-false, and_parts, ap, append_assoc, ap₂, arith, begins, begins_byte}
-use Rattle.npm_words.proofs.Common.{begins_identifier, cases_Bool, common_steps, drop, eqb-true, false, has_leading_zero, if◌then◌else◌, inl, inr}
-use Rattle.npm_words.proofs.Common.{is_ascii_digit, length, length-append, length-drop, list_all, nat_lt, nat_tests, not, pieces, prefix_len, refl}
-use Rattle.npm_words.proofs.Common.{subst, suc, sym, take, take-append-drop, true, zero, ℕ, ◌&&◌, ◌++◌, ◌+◌, ◌<◌, ◌==◌, ◌||◌, ◌∙◌, ◌∷◌, ◌≡◌, ◌≤◌, ◌⊎◌}
-use Rattle.npm_words.{proofs.Grammar.PartialLaw.prefix-all, specs.Internal.Inside.{begins_dotted_id, behind_digits, behind_id, behind_ids}}
-use Rattle.semver_core.{proofs.Reading.Qualifiers.byte-begins, specs.Text.{Characters.is_identifier_char, Identifiers.{goes_on, is_identifier}}}
-
--- ---- runs
-
--- a run at the front goes as far as this one, or further
-pub run-le : (F : ℕ → Bool) (x rest : List ℕ) → list_all F x ≡ true → length x ≤ prefix_len F (x ++ rest)
-run-le F [] rest h = omega arith
-run-le F (c ∷ x) rest h = let p = and_parts (F c) (list_all F x) h in rw p.0 (omega (arith, run-le F x rest p.1))
-
-pub run-exact : (F : ℕ → Bool) (x rest : List ℕ) → list_all F x ≡ true → begins F rest ≡ false → drop (prefix_len F (x ++ rest)) (x ++ rest) ≡ rest
-run-exact F [] [] h k = refl
-run-exact F [] (c ∷ rest) h k = rw k refl
-run-exact F (c ∷ x) rest h k =
-    let p = and_parts (F c) (list_all F x) h in
-    let e : 1 + prefix_len F (x ++ rest) ≡ suc (prefix_len F (x ++ rest)) = omega arith in
-    rw (p.0, e) (run-exact F x rest p.1 k)
+use Rattle.npm_words.proofs.Common.{Bool, List, [], all_weaker, and_parts, ap, append_assoc, arith, begins, begins_byte, begins_identifier}
+use Rattle.npm_words.proofs.Common.{cases_Bool, common_steps, drop, empty_is, false, has_leading_zero, if◌then◌else◌, inl, inr, is_ascii_digit}
+use Rattle.npm_words.proofs.Common.{is_empty, join_with_byte, length, length-append, length-drop, list_all, nat_tests, not, pieces, prefix_len, refl}
+use Rattle.npm_words.proofs.Common.{suc, sym, take, take-append-drop, true, zero, ℕ, ◌&&◌, ◌++◌, ◌+◌, ◌<◌, ◌==◌, ◌||◌, ◌∙◌, ◌∷◌, ◌≡◌, ◌≤◌}
+use Rattle.npm_words.proofs.Grammar.{PartialLaw.prefix-all, Runs.{run-exact, run-many, steps-go, steps-stop}}
+use Rattle.{npm_words.specs.Internal.Inside.{begins_dotted_id, behind_id, behind_ids}, semver_core.proofs.Reading.Bytes.begins-some}
+use Rattle.semver_core.{proofs.{Reading.Qualifiers.byte-begins, Text.Runs.not_dot}, specs.Text.{Characters.is_identifier_char, Identifiers.goes_on}}
+use Rattle.{semver_core.specs.Text.Identifiers.is_identifier, std.proofs.lemmas.List.Splits.{join_with_byte-slice_split, length-slice_split}}
 
 pub drop-le : (n : ℕ) (x rest : List ℕ) → length x ≤ n → length (drop n (x ++ rest)) ≤ length rest
 drop-le n x rest h = omega (arith, h, length-drop n (x ++ rest), length-append x rest)
@@ -31,38 +18,26 @@ abbrev pub is_good : Bool → List ℕ → Bool
 is_good strict id = is_identifier id && ((list_all is_ascii_digit id || not (begins is_ascii_digit id))
     && not (strict && (list_all is_ascii_digit id && has_leading_zero id)))
 
--- the three forms of an identifier
-id-chars : (strict : Bool) (c : ℕ) (text : List ℕ) → is_ascii_digit c ≡ false
-    → behind_id strict (c ∷ text) ≡ drop (prefix_len is_identifier_char (c ∷ text)) (c ∷ text)
-unfolding behind_id
-id-chars strict c text e = ap (λ (b : Bool). if b then (if strict && (c == 48) then text else behind_digits (c ∷ text))
-    else drop (prefix_len is_identifier_char (c ∷ text)) (c ∷ text)) e
-
-id-digits : (strict : Bool) (c : ℕ) (text : List ℕ) → is_ascii_digit c ≡ true → (strict && (c == 48)) ≡ false
-    → behind_id strict (c ∷ text) ≡ behind_digits (c ∷ text)
-unfolding behind_id
-id-digits strict c text e f = ap₂ (λ (a b : Bool). if a then (if b then text else behind_digits (c ∷ text))
-    else drop (prefix_len is_identifier_char (c ∷ text)) (c ∷ text)) e f
-
-id-zero : (strict : Bool) (c : ℕ) (text : List ℕ) → is_ascii_digit c ≡ true → (strict && (c == 48)) ≡ true → behind_id strict (c ∷ text) ≡ text
-unfolding behind_id
-id-zero strict c text e f = ap₂ (λ (a b : Bool). if a then (if b then text else behind_digits (c ∷ text))
-    else drop (prefix_len is_identifier_char (c ∷ text)) (c ∷ text)) e f
+-- the characters of an identifier that begins with this one
+abbrev class : ℕ → ℕ → Bool
+class c = if is_ascii_digit c then is_ascii_digit else is_identifier_char
 
 -- a digit is a character of identifiers
 digit-char : (c : ℕ) → is_ascii_digit c ≡ true → is_identifier_char c ≡ true
 digit-char c h = grind (arith, nat_tests, common_steps)
 
--- an identifier that begins with a digit is digits, and strictly one `0` alone begins with it
-record GoodDigits (strict : Bool) (c : ℕ) (id : List ℕ) : Type 0 where
-  each : list_all is_ascii_digit (c ∷ id) ≡ true
-  alone : (strict && (c == 48)) ≡ true → id ≡ []
+class-char : (c b : ℕ) → class c b ≡ true → is_identifier_char b ≡ true
+class-char c b h = grind (arith, digit-char b)
 
-good-digits : (strict : Bool) (c : ℕ) (id : List ℕ) → is_good strict (c ∷ id) ≡ true → is_ascii_digit c ≡ true → GoodDigits strict c id
-good-digits strict c [] h k = record { each = grind (arith, nat_tests); alone = λ e. refl }
-good-digits strict c (d ∷ id) h k =
-    let all : list_all is_ascii_digit (c ∷ d ∷ id) ≡ true = grind (arith, nat_tests) in
-    record { each = all; alone = λ e. absurd (grind (arith, nat_tests)) }
+-- an identifier goes on with its characters, and strictly one `0` alone begins with it
+good-is : (strict : Bool) (c : ℕ) (id : List ℕ) → is_good strict (c ∷ id) ≡ (list_all (class c) (c ∷ id) && (not (strict && (c == 48)) || is_empty id))
+good-is strict c id =
+    let each = all_weaker is_ascii_digit is_identifier_char digit-char id in grind (arith, nat_tests, common_steps, digit-char c)
+
+behind-is : (strict : Bool) (c : ℕ) (text : List ℕ)
+    → behind_id strict (c ∷ text) ≡ (if strict && (c == 48) then text else drop (prefix_len (class c) (c ∷ text)) (c ∷ text))
+unfolding behind_id
+behind-is strict c text = grind (arith, nat_tests)
 
 good-chars : (strict : Bool) (id : List ℕ) → is_good strict id ≡ true → list_all is_identifier_char id ≡ true
 good-chars strict id h = grind arith
@@ -72,26 +47,20 @@ record Behind (left rest : List ℕ) : Type 0 where
   le : length left ≤ length rest
   exact : begins is_identifier_char rest ≡ false → left ≡ rest
 
-quiet-run : (F : ℕ → Bool) → ((c : ℕ) → F c ≡ true → is_identifier_char c ≡ true) → (rest : List ℕ) → begins is_identifier_char rest ≡ false
-    → begins F rest ≡ false
-quiet-run F f [] h = refl
-quiet-run F f (c ∷ rest) h = elim (cases_Bool (F c)) [ inl on ↦ cc (f c on, h) | inr off ↦ off ]
-
-behind-run : (F : ℕ → Bool) → ((c : ℕ) → F c ≡ true → is_identifier_char c ≡ true) → (x rest : List ℕ) → list_all F x ≡ true
-    → Behind (drop (prefix_len F (x ++ rest)) (x ++ rest)) rest
-behind-run F f x rest h = record { le = drop-le _ x rest (run-le F x rest h); exact = λ q. run-exact F x rest h (quiet-run F f rest q) }
-
 good-behind : (strict : Bool) (id rest : List ℕ) → is_good strict id ≡ true → Behind (behind_id strict (id ++ rest)) rest
 good-behind strict [] rest h = cc h
-good-behind strict (c ∷ id) rest h = elim (cases_Bool (is_ascii_digit c)) [
-  | inr other ↦ rw (id-chars strict c (id ++ rest) other) (behind-run is_identifier_char (λ c h. h) (c ∷ id) rest (good-chars strict (c ∷ id) h))
-  | inl digit ↦
-      let d = good-digits strict c id h digit in
-      elim (cases_Bool (strict && (c == 48))) [
-        | inl null ↦ rw (id-zero strict c (id ++ rest) digit null, d.alone null) (record { le = omega arith; exact = λ q. refl })
-        | inr plain ↦ rw (id-digits strict c (id ++ rest) digit plain) (behind-run is_ascii_digit digit-char (c ∷ id) rest d.each)
-      ]
-]
+good-behind strict (c ∷ id) rest h =
+    let p = and_parts (list_all (class c) (c ∷ id)) (not (strict && (c == 48)) || is_empty id) (sym (good-is strict c id) ∙ h) in
+    rw (behind-is strict c (id ++ rest)) (elim (cases_Bool (strict && (c == 48))) [
+      | inl null ↦ rw (null, empty_is id (rw null at p.1)) (record { le = omega arith; exact = λ q. refl })
+      | inr plain ↦ rw plain (record {
+        le = drop-le _ (c ∷ id) rest (omega (arith, run-many (class c) (c ∷ id) rest p.0));
+        exact = λ q. run-exact (class c) (c ∷ id) rest p.0 (quiet rest q);
+      })
+    ])
+  where
+    quiet : (rest : List ℕ) → begins is_identifier_char rest ≡ false → begins (class c) rest ≡ false
+    quiet rest q = grind (arith, class-char c)
 
 pub id-le : (strict : Bool) (text : List ℕ) → length (behind_id strict text) ≤ length text
 unfolding behind_id
@@ -99,72 +68,36 @@ id-le strict text = grind (arith, length-drop, nat_tests)
 
 -- ---- lists
 
-step-le : (n : ℕ) (strict : Bool) (text : List ℕ) → ((t : List ℕ) → length (behind_ids n strict t) ≤ length t)
-    → length (behind_ids (suc n) strict text) ≤ length (behind_id strict text)
-unfolding behind_ids
-step-le n strict text f =
-    let rest = behind_id strict text in
-    elim (cases_Bool (begins_dotted_id rest)) [
-      | inr stop ↦ rw stop (omega arith)
-      | inl on ↦ rw on (omega (arith, f (drop 1 rest), length-drop 1 rest))
-    ]
-
 pub ids-le : (n : ℕ) (strict : Bool) (text : List ℕ) → length (behind_ids n strict text) ≤ length text
 unfolding behind_ids
 ids-le zero strict text = omega arith
-ids-le (suc n) strict text = omega (arith, step-le n strict text (ids-le n strict), id-le strict text)
+ids-le (suc n) strict text = grind (arith, id-le strict text, length-drop, ids-le n strict (drop 1 (behind_id strict text)))
 
 -- what stands behind a dot is shorter
-byte-some : (c : ℕ) (text : List ℕ) → begins_byte c text ≡ true → length (drop 1 text) < length text
-byte-some c [] h = cc h
-byte-some c (d ∷ text) h = omega arith
-
-pub dot-less : (strict : Bool) (text : List ℕ) → (let rest = behind_id strict text in begins_dotted_id rest) ≡ true
-    → length (drop 1 (behind_id strict text)) < length text
-dot-less strict text h =
-    let rest = behind_id strict text in
-    omega (arith, byte-some 46 rest (and_parts (begins_byte 46 rest) (begins_identifier (drop 1 rest)) h).0, id-le strict text)
-
--- the number only bounds the identifiers
-nil-ids : (n : ℕ) (strict : Bool) (text : List ℕ) → length text ≤ 0 → behind_ids n strict text ≡ text
-unfolding behind_ids behind_id
-nil-ids zero strict [] h = refl
-nil-ids (suc n) strict [] h = refl
-nil-ids n strict (c ∷ text) h = absurd (omega (arith, h))
-
-pub ids-enough : (n m : ℕ) (strict : Bool) (text : List ℕ) → length text ≤ n → length text ≤ m → behind_ids n strict text ≡ behind_ids m strict text
-unfolding behind_ids
-ids-enough zero m strict text h k = sym (nil-ids m strict text h)
-ids-enough (suc n) zero strict text h k = nil-ids (suc n) strict text k
-ids-enough (suc n) (suc m) strict text h k = elim (cases_Bool (begins_dotted_id (behind_id strict text))) [
-  | inr stop ↦ rw stop refl
-  | inl on ↦
-      let less = dot-less strict text on in
-      rw on (ids-enough n m strict (drop 1 (behind_id strict text)) (omega (arith, h, less)) (omega (arith, k, less)))
-]
-
-ids-step : (n : ℕ) (strict : Bool) (text : List ℕ) → behind_ids (suc n) strict text
-    ≡ (let rest = behind_id strict text in if begins_dotted_id rest then behind_ids n strict (drop 1 rest) else rest)
-unfolding behind_ids
-ids-step n strict text = refl
+dot-less : (strict : Bool) (text : List ℕ) → begins_dotted_id (behind_id strict text) ≡ true → length (drop 1 (behind_id strict text)) < length text
+dot-less strict text h = grind (arith, id-le strict text)
 
 -- ---- the loop
 
-module _ (strict : Bool) (text rest : List ℕ) (e : rest ≡ behind_id strict text) where
-  more : behind_ids (length text) strict text ≡ (if begins_dotted_id rest then behind_ids (length text) strict (drop 1 rest) else rest)
-  more = rw e (ids-enough (length text) (suc (length text)) strict text (omega arith) (omega arith) ∙ ids-step (length text) strict text)
+ids-none : (strict : Bool) → behind_ids 0 strict [] ≡ behind_id strict []
+unfolding behind_ids behind_id
+ids-none strict = refl
 
+ids-step : (strict : Bool) (n : ℕ) (text : List ℕ) → behind_ids (suc n) strict text
+    ≡ (if begins_dotted_id (behind_id strict text) then behind_ids n strict (drop 1 (behind_id strict text)) else behind_id strict text)
+unfolding behind_ids
+ids-step strict n text = refl
+
+module _ (strict : Bool) (text rest : List ℕ) (e : rest ≡ behind_id strict text) where
   pub ids-stop : begins_dotted_id rest ≡ false → rest ≡ behind_ids (length text) strict text
-  ids-stop h = sym (more ∙ rw h refl)
+  ids-stop h = e ∙ sym (steps-stop (λ n. behind_ids n strict) _ _ _ (ids-none strict) (ids-step strict) (dot-less strict) text (rw e at h))
 
   pub ids-less : (next : List ℕ) → next ≡ drop 1 rest → begins_dotted_id rest ≡ true → length next < length text
-  ids-less next g h =
-      omega (arith, dot-less strict text (rw e at h), ap length g, ap (λ (t : List ℕ). length (drop 1 t)) e)
+  ids-less next g h = rw (g, e) (dot-less strict text (rw e at h))
 
   pub ids-go : (next : List ℕ) → next ≡ drop 1 rest → begins_dotted_id rest ≡ true
       → behind_ids (length text) strict text ≡ behind_ids (length next) strict next
-  ids-go next g h =
-      more ∙ rw (h, ← g) (ids-enough (length text) (length next) strict next (omega (arith, ids-less next g h)) (omega arith))
+  ids-go next g h = rw (g, e) (steps-go (λ n. behind_ids n strict) _ _ _ (ids-none strict) (ids-step strict) (dot-less strict) text (rw e at h))
 
 -- ---- what is read is a list, and it is the longest
 
@@ -172,41 +105,19 @@ module _ (strict : Bool) (text rest : List ℕ) (e : rest ≡ behind_id strict t
 abbrev pub are_good : Bool → List ℕ → Bool
 are_good strict text = list_all (is_good strict) (pieces text)
 
-not-dot : (c : ℕ) → is_identifier_char c ≡ true → (c == 46) ≡ false
-not-dot c h = grind (arith, nat_tests, common_steps)
-
 -- the pieces of a text that an identifier begins
 pieces-next : (id rest : List ℕ) → list_all is_identifier_char id ≡ true → pieces (id ++ 46 ∷ rest) ≡ id ∷ pieces rest
 pieces-next [] rest h = refl
-pieces-next (c ∷ id) rest h =
-    let p = and_parts (is_identifier_char c) (list_all is_identifier_char id) h in rw (not-dot c p.0, pieces-next id rest p.1) refl
+pieces-next (c ∷ id) rest h = grind (arith, common_steps, not_dot c, pieces-next id rest)
 
 pieces-last : (id : List ℕ) → list_all is_identifier_char id ≡ true → pieces id ≡ id ∷ []
 pieces-last [] h = refl
-pieces-last (c ∷ id) h =
-    let p = and_parts (is_identifier_char c) (list_all is_identifier_char id) h in rw (not-dot c p.0, pieces-last id p.1) refl
+pieces-last (c ∷ id) h = grind (arith, common_steps, not_dot c, pieces-last id)
 
-pub record IdFound (strict : Bool) (text rest : List ℕ) : Type 0 where
-  pub id : List ℕ
-  pub split : text ≡ id ++ rest
-  pub good : is_good strict id ≡ true
-
--- a run of characters that begins with no digit, and one of digits
-good-run : (strict : Bool) (c : ℕ) (id : List ℕ) → list_all is_identifier_char (c ∷ id) ≡ true → is_ascii_digit c ≡ false → is_good strict (c ∷ id) ≡ true
-good-run strict c id h e =
-    let both : (list_all is_ascii_digit (c ∷ id) ≡ false) × (begins is_ascii_digit (c ∷ id) ≡ false) = (rw e refl, e) in
-    let some : nat_lt 0 (length (c ∷ id)) ≡ true = grind (arith, nat_tests) in
-    rw (some, h, both.0, both.1, and-false strict) refl
-
-good-number : (strict : Bool) (c : ℕ) (id : List ℕ) → list_all is_ascii_digit (c ∷ id) ≡ true → (strict && (c == 48)) ≡ false → is_good strict (c ∷ id) ≡ true
-good-number strict c id h e =
-    let chars = all_weaker is_ascii_digit is_identifier_char digit-char (c ∷ id) h in
-    let some : nat_lt 0 (length (c ∷ id)) ≡ true = grind (arith, nat_tests) in
-    let plain : (strict && (true && has_leading_zero (c ∷ id))) ≡ false = grind (arith, nat_tests) in
-    rw (some, chars, h, plain) refl
-
-good-null : (strict : Bool) (c : ℕ) → is_ascii_digit c ≡ true → is_good strict (c ∷ []) ≡ true
-good-null strict c h = grind (arith, nat_tests, digit-char c)
+record IdFound (strict : Bool) (text rest : List ℕ) : Type 0 where
+  id : List ℕ
+  split : text ≡ id ++ rest
+  good : is_good strict id ≡ true
 
 begins-char : (F : ℕ → Bool) (c : ℕ) (text : List ℕ) → F c ≡ true → take (prefix_len F (c ∷ text)) (c ∷ text) ≡ c ∷ take (prefix_len F text) text
 begins-char F c text h =
@@ -214,27 +125,17 @@ begins-char F c text h =
 
 id-found : (strict : Bool) (text : List ℕ) → begins_identifier text ≡ true → IdFound strict text (behind_id strict text)
 id-found strict [] h = cc h
-id-found strict (c ∷ text) h = elim (cases_Bool (is_ascii_digit c)) [
-  | inr other ↦
-      let n = prefix_len is_identifier_char (c ∷ text) in
-      rw (id-chars strict c text other) (record {
+id-found strict (c ∷ text) h = rw (behind-is strict c text) (elim (cases_Bool (strict && (c == 48))) [
+  | inl null ↦ rw null (record { id = c ∷ []; split = refl; good = good-is strict c [] ∙ grind arith })
+  | inr plain ↦
+      let n = prefix_len (class c) (c ∷ text) in
+      let first = begins-char (class c) c text (grind arith) in
+      rw plain (record {
         id = take n (c ∷ text);
         split = sym (take-append-drop n (c ∷ text));
-        good = rw (begins-char is_identifier_char c text h)
-            (good-run strict c _ (rw (begins-char is_identifier_char c text h) at (prefix-all is_identifier_char (c ∷ text))) other);
+        good = rw first (good-is strict c _ ∙ rw (rw first at (prefix-all (class c) (c ∷ text)), plain) refl);
       })
-  | inl digit ↦ elim (cases_Bool (strict && (c == 48))) [
-    | inl null ↦ rw (id-zero strict c text digit null) (record { id = c ∷ []; split = refl; good = good-null strict c digit })
-    | inr plain ↦
-        let n = prefix_len is_ascii_digit (c ∷ text) in
-        rw (id-digits strict c text digit plain) (record {
-          id = take n (c ∷ text);
-          split = sym (take-append-drop n (c ∷ text));
-          good = rw (begins-char is_ascii_digit c text digit)
-              (good-number strict c _ (rw (begins-char is_ascii_digit c text digit) at (prefix-all is_ascii_digit (c ∷ text))) plain);
-        })
-  ]
-]
+])
 
 pub record IdsFound (strict : Bool) (text rest : List ℕ) : Type 0 where
   pub ids : List ℕ
@@ -243,8 +144,7 @@ pub record IdsFound (strict : Bool) (text rest : List ℕ) : Type 0 where
 
 pub ids-found : (n : ℕ) (strict : Bool) (text : List ℕ) → begins_identifier text ≡ true → length text ≤ n → IdsFound strict text (behind_ids n strict text)
 unfolding behind_ids
-ids-found zero strict [] h k = cc h
-ids-found zero strict (c ∷ text) h k = absurd (omega (arith, k))
+ids-found zero strict text h k = absurd (omega (arith, k, begins-some is_identifier_char text h))
 ids-found (suc n) strict text h k =
     let one = id-found strict text h in
     let rest = behind_id strict text in
@@ -253,8 +153,7 @@ ids-found (suc n) strict text h k =
       | inr stop ↦ rw stop (record { ids = one.id; split = one.split; good = rw (pieces-last one.id each, one.good) refl })
       | inl on ↦
           let p = and_parts (begins_byte 46 rest) (begins_identifier (drop 1 rest)) on in
-          let less = dot-less strict text on in
-          let r = ids-found n strict (drop 1 rest) p.1 (omega (arith, less, k)) in
+          let r = ids-found n strict (drop 1 rest) p.1 (omega (arith, dot-less strict text on, k)) in
           rw on (record {
             ids = one.id ++ 46 ∷ r.ids;
             split = one.split ∙ ap (λ (t : List ℕ). one.id ++ t) (byte-begins 46 rest p.0 ∙ ap (λ (t : List ℕ). 46 ∷ t) r.split)
@@ -263,88 +162,47 @@ ids-found (suc n) strict text h k =
           })
     ]
 
--- the first piece of a text, and what stands behind its dot
-abbrev Cut : List ℕ → Type 0
-Cut text = (pieces text ≡ text ∷ []) ⊎ ((id : List ℕ) × (more : List ℕ) × (text ≡ id ++ 46 ∷ more) × (pieces text ≡ id ∷ pieces more))
+-- what is left is no longer than this, and all of it where no identifiers go on there
+pub record Ends (rest left : List ℕ) : Type 0 where
+  pub le : length left ≤ length rest
+  pub exact : goes_on rest ≡ false → left ≡ rest
 
-pieces-cut : (text : List ℕ) → Cut text
-pieces-cut [] = inl refl
-pieces-cut (c ∷ text) = elim (cases_Bool (c == 46)) [
-  | inl dot ↦ inr ([], text, ap (λ (b : ℕ). b ∷ text) (eqb-true c 46 dot), rw dot refl)
-  | inr other ↦ elim (pieces-cut text) [
-    | inl one ↦ inl (rw (other, one) refl)
-    | inr p ↦ (let (id, more, split, are) = p in inr (c ∷ id, more, ap (λ (t : List ℕ). c ∷ t) split, rw (other, are) refl))
-  ]
-]
-
--- the same identifiers, one by one
-data AreGood (strict : Bool) : List ℕ → Type 0 where
-  last : (id : List ℕ) → is_good strict id ≡ true → AreGood strict id
-  dotted : (id others : List ℕ) → is_good strict id ≡ true → AreGood strict others → AreGood strict (id ++ 46 ∷ others)
-
-good-each : (n : ℕ) (strict : Bool) (ids : List ℕ) → length ids ≤ n → are_good strict ids ≡ true → AreGood strict ids
-good-each zero strict [] k h = cc h
-good-each zero strict (c ∷ ids) k h = absurd (omega (arith, k))
-good-each (suc n) strict ids k h = elim (pieces-cut ids) [
-  | inl one ↦ last ids (and_parts (is_good strict ids) true (rw one at h)).0
-  | inr p ↦
-      let (id, more, split, are) = p in
-      let a = and_parts (is_good strict id) (are_good strict more) (rw are at h) in
-      subst (AreGood strict) (sym split)
-      (dotted id more a.0 (good-each n strict more (omega (arith, k, ap length split, length-append id (46 ∷ more))) a.1))
-]
-
-begins-good : (strict : Bool) (ids rest : List ℕ) → AreGood strict ids → begins_identifier (ids ++ rest) ≡ true
-begins-good strict ids rest (last [] h) = cc h
-begins-good strict ids rest (last (c ∷ id) h) = (and_parts (is_identifier_char c) (list_all is_identifier_char id) (good-chars strict (c ∷ id) h)).0
-begins-good strict ids rest (dotted [] others h k) = cc h
-begins-good strict ids rest (dotted (c ∷ id) others h k) = (and_parts (is_identifier_char c) (list_all is_identifier_char id) (good-chars strict (c ∷ id) h)).0
-
--- behind an identifier and a dot
-then-on : (n : ℕ) (strict : Bool) (id more rest : List ℕ) → is_good strict id ≡ true → AreGood strict more
-    → behind_ids (suc n) strict ((id ++ 46 ∷ more) ++ rest) ≡ behind_ids n strict (more ++ rest)
-then-on n strict id more rest h k =
-    let e : behind_id strict ((id ++ 46 ∷ more) ++ rest) ≡ 46 ∷ (more ++ rest) =
-    ap (λ (t : List ℕ). behind_id strict t) (append_assoc id (46 ∷ more) rest) ∙ (good-behind strict id (46 ∷ (more ++ rest)) h).exact refl in
-    ids-step n strict ((id ++ 46 ∷ more) ++ rest) ∙ rw (e, begins-good strict more rest k) refl
-
-quiet-end : (rest : List ℕ) → goes_on rest ≡ false → (begins is_identifier_char rest ≡ false) × (begins_dotted_id rest ≡ false)
-quiet-end [] g = (refl, refl)
-quiet-end (c ∷ rest) g = (grind arith, grind arith)
-
--- the same behind lists
-record BehindAll (left rest : List ℕ) : Type 0 where
-  le : length left ≤ length rest
-  exact : goes_on rest ≡ false → left ≡ rest
-
-behind-each : (n : ℕ) (strict : Bool) (ids rest : List ℕ) → AreGood strict ids → length (ids ++ rest) ≤ n → BehindAll (behind_ids n strict (ids ++ rest)) rest
-behind-each zero strict ids rest h k = none-there (ids ++ rest) (begins-good strict ids rest h) k
-  where
-    none-there : (text : List ℕ) → begins_identifier text ≡ true → length text ≤ 0 → BehindAll (behind_ids zero strict (ids ++ rest)) rest
-    none-there [] b k = cc b
-    none-there (c ∷ text) b k = absurd (omega (arith, k))
-behind-each (suc n) strict ids rest (last id h) k =
-    let g = good-behind strict id rest h in
-    record {
-      le = omega (arith, step-le n strict (id ++ rest) (ids-le n strict), g.le);
-      exact = λ q. (let e = quiet-end rest q in ids-step n strict (id ++ rest) ∙ rw (g.exact e.0, e.1) refl);
-    }
-behind-each (suc n) strict ids rest (dotted id others h l) k = rw (then-on n strict id others rest h l)
-    (behind-each n strict others rest l (omega (arith, k, length-append (id ++ 46 ∷ others) rest, length-append id (46 ∷ others), length-append others rest)))
+begins-good : (strict : Bool) (ps : List (List ℕ)) (rest : List ℕ) → list_all (is_good strict) ps ≡ true → 0 < length ps
+    → begins_identifier (join_with_byte 46 ps ++ rest) ≡ true
+begins-good strict [] rest h some = absurd (omega (arith, some))
+begins-good strict ([] ∷ ps) rest h some = cc h
+begins-good strict ((c ∷ id) ∷ []) rest h some = grind arith
+begins-good strict ((c ∷ id) ∷ p ∷ ps) rest h some = grind arith
 
 -- no less is read than a list that stands there, and no more where it does not go on
+behind-each : (n : ℕ) (strict : Bool) (ps : List (List ℕ)) (rest : List ℕ) → list_all (is_good strict) ps ≡ true → 0 < length ps
+    → length (join_with_byte 46 ps ++ rest) ≤ n → Ends rest (behind_ids n strict (join_with_byte 46 ps ++ rest))
+behind-each n strict [] rest h some k = absurd (omega (arith, some))
+behind-each zero strict ps rest h some k =
+    absurd (omega (arith, k, begins-some is_identifier_char (join_with_byte 46 ps ++ rest) (begins-good strict ps rest h some)))
+behind-each (suc n) strict (id ∷ []) rest h some k =
+    let g = good-behind strict id rest (and_parts (is_good strict id) true h).0 in
+    let quiet : goes_on rest ≡ false → (begins is_identifier_char rest ≡ false) × (begins_dotted_id rest ≡ false) = λ q. (grind arith, grind arith) in
+    record {
+      le = grind (arith, ids-step strict n (id ++ rest), length-drop, ids-le n strict (drop 1 (behind_id strict (id ++ rest))), g.le);
+      exact = λ q. ids-step strict n (id ++ rest) ∙ rw (g.exact (quiet q).0, (quiet q).1) refl;
+    }
+behind-each (suc n) strict (id ∷ p ∷ ps) rest h some k =
+    let others = join_with_byte 46 (p ∷ ps) in
+    let each = and_parts (is_good strict id) (list_all (is_good strict) (p ∷ ps)) h in
+    let whole : (id ++ 46 ∷ others) ++ rest ≡ id ++ 46 ∷ (others ++ rest) = append_assoc id (46 ∷ others) rest in
+    let first : behind_id strict (id ++ 46 ∷ (others ++ rest)) ≡ 46 ∷ (others ++ rest) =
+    (good-behind strict id (46 ∷ (others ++ rest)) each.0).exact refl in
+    let on : behind_ids (suc n) strict ((id ++ 46 ∷ others) ++ rest) ≡ behind_ids n strict (others ++ rest) =
+    rw whole (ids-step strict n (id ++ 46 ∷ (others ++ rest)) ∙ rw (first, begins-good strict (p ∷ ps) rest each.1 (omega arith)) refl) in
+    rw on (behind-each n strict (p ∷ ps) rest each.1 (omega arith) (omega (arith, k, ap length whole, length-append id (46 ∷ (others ++ rest)))))
+
 module _ (strict : Bool) (ids rest : List ℕ) (h : are_good strict ids ≡ true) where
-  each : AreGood strict ids
-  each = good-each (length ids) strict ids (omega arith) h
+  some : 0 < length (pieces ids)
+  some = omega (arith, length-slice_split (λ b. b == 46) ids)
 
-  all : BehindAll (behind_ids (length (ids ++ rest)) strict (ids ++ rest)) rest
-  all = behind-each (length (ids ++ rest)) strict ids rest each (omega arith)
-
-  pub ids-max : length (behind_ids (length (ids ++ rest)) strict (ids ++ rest)) ≤ length rest
-  ids-max = all.le
-
-  pub ids-exact : goes_on rest ≡ false → behind_ids (length (ids ++ rest)) strict (ids ++ rest) ≡ rest
-  ids-exact = all.exact
+  pub ids-ends : Ends rest (behind_ids (length (ids ++ rest)) strict (ids ++ rest))
+  ids-ends = rw join_with_byte-slice_split at (behind-each (length (join_with_byte 46 (pieces ids) ++ rest)) strict (pieces ids) rest h some (omega arith))
 
   pub ids-begin : begins_identifier (ids ++ rest) ≡ true
-  ids-begin = begins-good strict ids rest each
+  ids-begin = rw join_with_byte-slice_split at (begins-good strict (pieces ids) rest h some)

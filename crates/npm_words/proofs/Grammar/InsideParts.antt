@@ -1,17 +1,17 @@
 -- A partial inside a malformed word: what the functions find at the front of a text is one, and no longer one stands there.
 use Rattle.npm_words.proofs.Common.{Bool, Id, IsIdentifiers, IsNumber, IsPlace, IsStrictBuild, List, None, Option, Some, VersionValue, [], and-false}
 use Rattle.npm_words.proofs.Common.{and_parts, ap, append_assoc, ap₂, arith, bare, begins, begins_byte, begins_identifier, begins_undashed}
-use Rattle.npm_words.proofs.Common.{begins_wildcard, build_front, cases_Bool, dashed, digits_value, drop, drop_at, eqb-true, false, has_leading_zero}
-use Rattle.npm_words.proofs.Common.{if◌then◌else◌, inl, inr, is_ascii_digit, is_none, is_strict_list, length, length-append, length-drop, list_all}
-use Rattle.npm_words.proofs.Common.{listed, nat_le, nat_lt, nat_tests, no_build, no_pre_release, not, one, pieces, plus, prefix_len, refl, subst, suc}
-use Rattle.npm_words.proofs.Common.{sym, take, take-append-drop, three, true, two, zero, ℕ, ◌&&◌, ◌++◌, ◌<◌, ◌==◌, ◌||◌, ◌∙◌, ◌∷◌, ◌≡◌, ◌≤◌, ◌⊎◌}
-use Rattle.npm_words.proofs.Grammar.InsideIds.{are_good, drop-le, ids-begin, ids-exact, ids-found, ids-le, ids-max, is_good, run-le}
-use Rattle.npm_words.{proofs.Grammar.{PartialLaw.digits-of, VersionLaw.build-found}, specs.Grammar.{IsPreRelease, written}}
-use Rattle.npm_words.specs.Internal.Inside.{begins_dotted, behind_ids, behind_partial, behind_place, behind_places, behind_pre_release}
-use Rattle.npm_words.specs.{Internal.Inside.{behind_qualifier, capped, is_single, most, starts}, Malformed.{IsInside, are_found, partial, version}}
-use Rattle.{npm_words.specs.Partials.{any, number}, semver_core.proofs.Reading.{IdentifierLists.{written-begins, written-le}, Numbers.digits-taken}}
-use Rattle.semver_core.{proofs.Reading.Qualifiers.{build_front-le, byte-begins}, specs.Text.{Characters.is_identifier_char, Identifiers.goes_on}}
-use Rattle.{semver_core.specs.Text.Identifiers.is_identifier, std.proofs.lemmas.List.{Sums.prefix_len-le-length, length-take-le}}
+use Rattle.npm_words.proofs.Common.{begins_wildcard, build_front, cases_Bool, common_steps, dashed, digits_value, drop, drop_at, false}
+use Rattle.npm_words.proofs.Common.{has_leading_zero, if◌then◌else◌, inl, inr, is_ascii_digit, is_none, is_strict_list, length, length-append}
+use Rattle.npm_words.proofs.Common.{length-drop, list_all, listed, nat_le, nat_lt, nat_tests, no_build, no_pre_release, not, one, pieces, plus}
+use Rattle.npm_words.proofs.Common.{prefix_len, refl, subst, suc, sym, take, take-append-drop, three, true, two, zero, ℕ, ◌&&◌, ◌++◌, ◌<◌, ◌==◌, ◌||◌}
+use Rattle.npm_words.proofs.{Common.{◌∙◌, ◌∷◌, ◌≡◌, ◌≤◌, ◌⊎◌}, Grammar.InsideIds.{Ends, are_good, drop-le, ids-begin, ids-ends, ids-found, ids-le}}
+use Rattle.npm_words.proofs.Grammar.{InsideIds.is_good, PartialLaw.{digits-of, run-number}, Runs.run-many, VersionLaw.build-found}
+use Rattle.npm_words.specs.{Grammar.{IsPreRelease, written}, Internal.Inside.{begins_dotted, behind_ids, behind_partial, behind_place, behind_places}}
+use Rattle.npm_words.specs.{Internal.Inside.{behind_pre_release, behind_qualifier, capped, is_single, most, starts}, Malformed.{IsInside, are_found}}
+use Rattle.{npm_words.specs.{Malformed.{partial, version}, Partials.{any, number}}, semver_core.proofs.Reading.IdentifierLists.written-begins}
+use Rattle.semver_core.proofs.Reading.{IdentifierLists.written-le, Numbers.digits-taken, Qualifiers.{build_front-le, byte-begins}}
+use Rattle.{semver_core.specs.Text.Identifiers.{goes_on, is_identifier}, std.proofs.lemmas.List.{Sums.prefix_len-le-length, length-take-le}}
 use Rattle.std.specs.Char.{is_ascii_alphabetic}
 
 -- ---- which identifiers may stand there
@@ -25,11 +25,7 @@ each-good : (strict : Bool) (ps : List (List ℕ)) → list_all (is_good strict)
     && ((not strict || list_all (λ id. not (list_all is_ascii_digit id && has_leading_zero id)) ps)
     && list_all (λ id. list_all is_ascii_digit id || not (begins is_ascii_digit id)) ps))
 each-good strict [] = grind arith
-each-good strict (p ∷ ps) = rw (each-good strict ps) (sorted strict (is_identifier p) (list_all is_ascii_digit p || not (begins is_ascii_digit p))
-    (list_all is_ascii_digit p && has_leading_zero p) _ _ _)
-  where
-    sorted : (s a b c d e f : Bool) → ((a && (b && not (s && c))) && (d && ((not s || e) && f))) ≡ ((a && d) && ((not s || (not c && e)) && (b && f)))
-    sorted s a b c d e f = grind arith
+each-good strict (p ∷ ps) = grind (arith, each-good strict ps)
 
 fits-good : (strict : Bool) (ids : List ℕ) (list : List Id) → IsIdentifiers ids list → fits strict ids ≡ true → are_good strict ids ≡ true
 fits-good strict ids list i f = each-good strict (pieces ids) ∙ rw (i.runs, f) refl
@@ -37,9 +33,7 @@ fits-good strict ids list i f = each-good strict (pieces ids) ∙ rw (i.runs, f)
 good-fits : (strict : Bool) (ids : List ℕ) → are_good strict ids ≡ true → IsIdentifiers ids (listed ids) × (fits strict ids ≡ true)
 unfolding listed
 good-fits strict [] g = cc g
-good-fits strict (c ∷ ids) g =
-    let p = and_parts (list_all is_identifier (pieces (c ∷ ids))) (fits strict (c ∷ ids)) (sym (each-good strict (pieces (c ∷ ids))) ∙ g) in
-    (record { runs = p.0; spelled = refl }, p.1)
+good-fits strict (c ∷ ids) g = let each = each-good strict (pieces (c ∷ ids)) in (record { runs = grind arith; spelled = refl }, grind arith)
 
 -- ---- a pre-release
 
@@ -50,11 +44,8 @@ abbrev is_bare : Bool → List ℕ → Bool
 is_bare strict text = not strict && (begins is_ascii_alphabetic text || begins_byte 45 text)
 
 -- what is read is a pre-release
-abbrev PreAt : Bool → Bool → List ℕ → List ℕ → Type 0
-PreAt strict wild text rest = (pre : List ℕ) × (ids : List Id) × (text ≡ pre ++ rest) × (begins is_ascii_digit pre ≡ false)
-    × IsPreRelease (not strict) (strict && wild) (fits strict) pre ids
-
-pre-found : (strict wild : Bool) (text : List ℕ) → PreAt strict wild text (behind_pre_release strict text)
+pre-found : (strict wild : Bool) (text : List ℕ) → (pre : List ℕ) × (ids : List Id) × (text ≡ pre ++ behind_pre_release strict text)
+    × (begins is_ascii_digit pre ≡ false) × IsPreRelease (not strict) (strict && wild) (fits strict) pre ids
 unfolding behind_pre_release
 pre-found strict wild text = elim (cases_Bool (is_dashed text)) [
   | inl dash ↦
@@ -74,14 +65,11 @@ pre-found strict wild text = elim (cases_Bool (is_dashed text)) [
 ]
   where
     bare-begins : (text : List ℕ) → (begins is_ascii_alphabetic text || begins_byte 45 text) ≡ true → begins_identifier text ≡ true
-    bare-begins [] k = cc k
-    bare-begins (c ∷ text) k = grind (arith, nat_tests)
+    bare-begins text k = grind (arith, nat_tests)
 
     bare-parts : (ids rest : List ℕ) → are_good strict ids ≡ true → (let all = ids ++ rest in begins is_ascii_alphabetic all || begins_byte 45 all) ≡ true
         → is_dashed (ids ++ rest) ≡ false → ((wild : Bool) → begins_undashed wild ids ≡ true) × (begins is_ascii_digit ids ≡ false)
-    bare-parts [] rest g h k = cc g
-    bare-parts (c ∷ []) rest g h k = (λ wild. grind (arith, nat_tests), grind (arith, nat_tests))
-    bare-parts (c ∷ d ∷ ids) rest g h k = (λ wild. grind (arith, nat_tests), grind (arith, nat_tests))
+    bare-parts ids rest g h k = (λ wild. grind (arith, nat_tests), grind (arith, nat_tests))
 
 pre-le : (strict : Bool) (text : List ℕ) → length (behind_pre_release strict text) ≤ length text
 pre-le strict text =
@@ -92,46 +80,29 @@ qualifier-le strict text = omega (arith, build_front-le (behind_pre_release stri
 
 -- a text in which no identifiers go on begins no pre-release
 quiet-end : (rest : List ℕ) → goes_on rest ≡ false → begins_identifier rest ≡ false
-quiet-end [] g = refl
-quiet-end (c ∷ rest) g = grind arith
+quiet-end rest g = grind arith
 
 none-read : (strict : Bool) (rest : List ℕ) → goes_on rest ≡ false → behind_pre_release strict rest ≡ rest
 unfolding behind_pre_release
-none-read strict [] g = rw (and-false (not strict)) refl
-none-read strict (c ∷ rest) g = grind (arith, nat_tests)
-
--- what is left is no longer than this, and all of it where no identifiers go on there
-record Ends (rest left : List ℕ) : Type 0 where
-  le : length left ≤ length rest
-  exact : goes_on rest ≡ false → left ≡ rest
-
-ids-end : (strict : Bool) (ids rest : List ℕ) → are_good strict ids ≡ true → Ends rest (behind_ids (length (ids ++ rest)) strict (ids ++ rest))
-ids-end strict ids rest g = record { le = ids-max strict ids rest g; exact = ids-exact strict ids rest g }
+none-read strict rest g = grind (arith, nat_tests, and-false)
 
 -- without `-` begins one that begins with a letter, or with a `-` that no identifier follows
 bare-end : (ids rest : List ℕ) → begins_undashed false ids ≡ true → begins is_ascii_digit ids ≡ false → are_good false ids ≡ true
     → Ends rest (behind_pre_release false (ids ++ rest))
 unfolding behind_pre_release
 bare-end [] rest u q g = cc u
-bare-end (c ∷ []) rest u q g =
-    let bare : (is_ascii_alphabetic c || (c == 45)) ≡ true = grind arith in
-    elim (cases_Bool ((c == 45) && begins_identifier rest)) [
-      | inl dash ↦
-          let p = and_parts (c == 45) (begins_identifier rest) dash in
-          rw dash (record { le = ids-le (length rest) false rest; exact = λ e. cc (p.1, quiet-end rest e) })
-      | inr other ↦ rw (other, bare) (ids-end false (c ∷ []) rest g)
-    ]
-bare-end (c ∷ d ∷ ids) rest u q g =
-    let other : ((c == 45) && is_identifier_char d) ≡ false = grind (arith, nat_tests) in
-    let bare : (is_ascii_alphabetic c || (c == 45)) ≡ true = grind arith in
-    rw (other, bare) (ids-end false (c ∷ (d ∷ ids)) rest g)
+bare-end (c ∷ ids) rest u q g =
+    let whole = ids-ends false (c ∷ ids) rest g in
+    let some = ids-le (length rest) false rest in
+    let quiet = quiet-end rest in
+    grind (arith, nat_tests)
 
 pre-end : (strict wild : Bool) (pre rest : List ℕ) (l : List Id) → IsPreRelease (not strict) (strict && wild) (fits strict) pre l
     → begins is_ascii_digit pre ≡ false → Ends rest (behind_pre_release strict (pre ++ rest))
 unfolding behind_pre_release
 pre-end strict wild pre rest l no_pre_release q = record { le = pre-le strict rest; exact = none-read strict rest }
 pre-end strict wild pre rest l (dashed t list i h) q =
-    let g = fits-good strict t list i h in rw (ids-begin strict t rest g) (ids-end strict t rest g)
+    let g = fits-good strict t list i h in rw (ids-begin strict t rest g) (ids-ends strict t rest g)
 pre-end true wild pre rest l (bare t list i h x) q = cc x
 pre-end false wild pre rest l (bare t list i h x) q = bare-end t rest x q (fits-good false t list i h)
 
@@ -157,7 +128,7 @@ run-placed : (strict : Bool) (c : ℕ) (run : List ℕ) → list_all is_ascii_di
     → nat_le (length (c ∷ run)) (most strict) ≡ true → Placed strict (c ∷ run)
 unfolding behind_place
 run-placed strict c run each plain short = record {
-  max = λ rest. rw plain (drop-le _ (c ∷ run) rest (capped-is _ _ (run-le is_ascii_digit (c ∷ run) rest each) short).0);
+  max = λ rest. rw plain (drop-le _ (c ∷ run) rest (capped-is _ _ (omega (arith, run-many is_ascii_digit (c ∷ run) rest each)) short).0);
   exact = λ rest stop. rw (plain, digits-taken (c ∷ run) rest each stop, (capped-is _ (length (c ∷ run)) (omega arith) short).1)
       (drop_at (c ∷ run) rest (length (c ∷ run)) refl);
   begin = λ rest. rw (and_parts (is_ascii_digit c) (list_all is_ascii_digit run) each).0 refl;
@@ -198,28 +169,21 @@ run-part strict zero c text some le short plain = absurd (omega arith)
 run-part false (suc k) c text some le short plain =
     let len = length-take-le (suc k) (c ∷ text) (omega (arith, le, prefix_len-le-length is_ascii_digit (c ∷ text))) in
     let fits : suc k ≤ 256 = grind (arith, nat_tests) in
-    (record { some = omega arith; each = digits-of (suc k) (c ∷ text) le; value = refl; safe = omega arith }, omega (arith, len, fits))
+    (run-number (c ∷ take k text) (omega arith) (digits-of (suc k) (c ∷ text) le), omega (arith, len, fits))
 run-part true (suc k) c text some le short plain =
     let len = length-take-le (suc k) (c ∷ text) (omega (arith, le, prefix_len-le-length is_ascii_digit (c ∷ text))) in
     let first : has_leading_zero (c ∷ take k text) ≡ false = grind arith in
-    let is : IsNumber (digits_value 10 (c ∷ take k text)) (c ∷ take k text) (digits_value 10 (c ∷ take k text)) =
-    record { some = omega arith; each = digits-of (suc k) (c ∷ text) le; value = refl; safe = omega arith } in
-    number (c ∷ take k text) _ is (rw first refl) (rw len short)
+    number (c ∷ take k text) _ (run-number (c ∷ take k text) (omega arith) (digits-of (suc k) (c ∷ text) le)) (rw first refl) (rw len short)
 
 single-part : (strict : Bool) (c : ℕ) (text : List ℕ) → is_single strict (c ∷ text) ≡ true → (a : Option ℕ) × IsPart strict (c ∷ []) a
 single-part false c text h = cc h
 single-part true c text h = elim (cases_Bool (c == 48)) [
   | inr other ↦ (None, any c (rw other at h))
-  | inl same ↦
-      let null : IsPlace false (48 ∷ []) (Some 0) =
-      number (48 ∷ []) 0 (record { some = omega arith; each = refl; value = refl; safe = omega arith }) refl refl in
-      (Some 0, subst (λ (b : ℕ). IsPlace false (b ∷ []) (Some 0)) (sym (eqb-true c 48 same)) null)
+  | inl null ↦ (Some (digits_value 10 (c ∷ [])), number (c ∷ []) _ (run-number (c ∷ []) (omega arith) (grind (arith, nat_tests))) refl refl)
 ]
 
-abbrev PlaceAt : Bool → List ℕ → List ℕ → Type 0
-PlaceAt strict text rest = (x : List ℕ) × (a : Option ℕ) × (text ≡ x ++ rest) × IsPart strict x a × (length rest < length text)
-
-place-found : (strict : Bool) (text : List ℕ) → starts strict text ≡ true → PlaceAt strict text (behind_place strict text)
+place-found : (strict : Bool) (text : List ℕ) → starts strict text ≡ true → (x : List ℕ) × (a : Option ℕ) × (text ≡ x ++ behind_place strict text)
+    × IsPart strict x a × (length (behind_place strict text) < length text)
 unfolding behind_place
 place-found strict [] h = cc (and-false strict, h)
 place-found strict (c ∷ text) h = elim (cases_Bool (is_single strict (c ∷ text))) [
@@ -237,35 +201,23 @@ place-found strict (c ∷ text) h = elim (cases_Bool (is_single strict (c ∷ te
 
 dotted-le : (text : List ℕ) → length (behind_place true (drop 1 text)) ≤ length text
 unfolding behind_place
-dotted-le text = elim (cases_Bool (is_single true (drop 1 text))) [
-  | inl single ↦ rw single (omega (arith, length-drop 1 (drop 1 text), length-drop 1 text))
-  | inr run ↦ rw run (omega (arith, length-drop (capped true (prefix_len is_ascii_digit (drop 1 text))) (drop 1 text), length-drop 1 text))
-]
+dotted-le text = grind (arith, nat_tests, length-drop)
 
 -- ---- up to three of them
 
 -- strictly no more is left than behind the first place, and behind the second one
 one-le : (text : List ℕ) → length (behind_places true text) ≤ length (behind_place true text)
 unfolding behind_places
-one-le text =
-    let one = behind_place true text in
-    let two = behind_place true (drop 1 one) in
-    elim (cases_Bool (begins_dotted true one)) [
-      | inr stop ↦ rw stop (omega arith)
-      | inl on ↦ elim (cases_Bool (begins_dotted true two)) [
-        | inr stop ↦ rw (on, stop) (dotted-le one)
-        | inl goes ↦ rw (on, goes) (omega (arith, qualifier-le true (behind_place true (drop 1 two)), dotted-le two, dotted-le one))
-      ]
-    ]
+one-le text = grind (arith, nat_tests, dotted-le, qualifier-le)
 
 two-max : (x y rest : List ℕ) → Placed true x → Placed true y → length (behind_places true (x ++ 46 ∷ (y ++ rest))) ≤ length rest
 unfolding behind_places
 two-max x y rest i j =
     let two = behind_place true (y ++ rest) in
-    rw (i.exact (46 ∷ (y ++ rest)) refl, j.begin rest) (elim (cases_Bool (begins_dotted true two)) [
-      | inr stop ↦ rw stop (j.max rest)
-      | inl on ↦ rw on (omega (arith, j.max rest, qualifier-le true (behind_place true (drop 1 two)), dotted-le two))
-    ])
+    let stop = j.max rest in
+    let third = dotted-le two in
+    let last = qualifier-le true (behind_place true (drop 1 two)) in
+    rw (i.exact (46 ∷ (y ++ rest)) refl, j.begin rest) (grind arith)
 
 three-append : (x y z pre build rest : List ℕ)
     → (x ++ 46 ∷ (y ++ 46 ∷ (z ++ (pre ++ build)))) ++ rest ≡ x ++ 46 ∷ (y ++ 46 ∷ (z ++ (pre ++ (build ++ rest))))
@@ -354,35 +306,41 @@ places-found strict text h =
 -- what is left behind it is one of the two rests, and no longer than either
 which : (text : List ℕ) → (strict : Bool) × (behind_partial text ≡ behind_places strict text)
 unfolding behind_partial
-which text = elim (cases_Bool (nat_le (length (behind_places false text)) (length (behind_places true text)))) [
-  | inl le ↦ (false, rw le refl)
-  | inr gt ↦ (true, rw gt refl)
-]
+which text = (not (nat_le (length (behind_places false text)) (length (behind_places true text))), grind arith)
 
 partial-le : (strict : Bool) (text : List ℕ) (n : ℕ) → length (behind_places strict text) ≤ n → length (behind_partial text) ≤ n
 unfolding behind_partial
-partial-le false text n h = grind (arith, nat_tests)
-partial-le true text n h = grind (arith, nat_tests)
-
--- no partial that stands there is longer
-pub partial-max : (text rest : List ℕ) → IsInside text → length (behind_partial (text ++ rest)) ≤ length rest
-partial-max text rest (version t v (written (c ∷ mark) x y z pre build w m i j k p b)) = cc m
-partial-max text rest (version t v (written [] x y z pre build w m i j k p b)) = rw (three-append x y z pre build rest) (partial-le false _ _
-    (three-max false false x y z pre build rest w.pre_release w.build (number-placed x _ i) (number-placed y _ j) (number-placed z _ k) p.1 p.0 b))
-partial-max text rest (partial t p (one x a h)) = partial-le true _ _ (omega (arith, one-le (x ++ rest), (place-placed x a h).max rest))
-partial-max text rest (partial t p (two x y a b h k)) =
-    rw (append_assoc x (46 ∷ y) rest) (partial-le true _ _ (two-max x y rest (place-placed x a h) (place-placed y b k)))
-partial-max text rest (partial t p (three x y z pre build a b c ids builds h k l m n g)) = rw (three-append x y z pre build rest) (partial-le true _ _
-    (three-max true (is_none c) x y z pre build rest ids builds (place-placed x a h) (place-placed y b k) (place-placed z c l) m (quiet m) n))
-  where
-    quiet : {wild : Bool} {fits : List ℕ → Bool} {pre : List ℕ} {l : List Id} → IsPreRelease false wild fits pre l → begins is_ascii_digit pre ≡ false
-    quiet no_pre_release = refl
-    quiet (dashed t list i h) = refl
-    quiet (bare t list i h x) = cc x
+partial-le strict text n h = grind (arith, nat_tests)
 
 -- a number or a wildcard is at the front
 abbrev pub starts_place : List ℕ → Bool
 starts_place text = begins is_ascii_digit text || begins_wildcard text
+
+-- a partial begins with a place, and no partial that stands there is longer
+reads : (text rest : List ℕ) → IsInside text → (starts_place (text ++ rest) ≡ true) × (length (behind_partial (text ++ rest)) ≤ length rest)
+reads text rest (version t v (written (c ∷ mark) x y z pre build w m i j k p b)) = cc m
+reads text rest (version t v (written [] x y z pre build w m i j k p b)) =
+    let first = (number-placed x _ i).begin (46 ∷ (y ++ 46 ∷ (z ++ (pre ++ (build ++ rest))))) in
+    rw (three-append x y z pre build rest) (grind arith, partial-le false _ _
+    (three-max false false x y z pre build rest w.pre_release w.build (number-placed x _ i) (number-placed y _ j) (number-placed z _ k) p.1 p.0 b))
+reads text rest (partial t p (one x a h)) =
+    let place = place-placed x a h in (place.begin rest, partial-le true _ _ (omega (arith, one-le (x ++ rest), place.max rest)))
+reads text rest (partial t p (two x y a b h k)) =
+    let place = place-placed x a h in
+    rw (append_assoc x (46 ∷ y) rest) (place.begin (46 ∷ (y ++ rest)), partial-le true _ _ (two-max x y rest place (place-placed y b k)))
+reads text rest (partial t p (three x y z pre build a b c ids builds h k l m n g)) =
+    let place = place-placed x a h in
+    rw (three-append x y z pre build rest) (place.begin (46 ∷ (y ++ 46 ∷ (z ++ (pre ++ (build ++ rest))))), partial-le true _ _
+    (three-max true (is_none c) x y z pre build rest ids builds place (place-placed y b k) (place-placed z c l) m (quiet m) n))
+  where
+    quiet : {wild : Bool} {fits : List ℕ → Bool} {pre : List ℕ} {l : List Id} → IsPreRelease false wild fits pre l → begins is_ascii_digit pre ≡ false
+    quiet h = grind (arith, nat_tests, common_steps)
+
+pub inside-starts : (text rest : List ℕ) → IsInside text → starts_place (text ++ rest) ≡ true
+inside-starts text rest i = (reads text rest i).0
+
+pub partial-max : (text rest : List ℕ) → IsInside text → length (behind_partial (text ++ rest)) ≤ length rest
+partial-max text rest i = (reads text rest i).1
 
 -- something is read, and it is a partial
 pub partial-less : (text : List ℕ) → starts_place text ≡ true → length (behind_partial text) < length text
@@ -393,9 +351,7 @@ partial-less text h =
 -- loosely nothing is read at a wildcard
 nothing-read : (strict : Bool) (text : List ℕ) → starts_place text ≡ true → starts strict text ≡ false → behind_places strict text ≡ text
 unfolding behind_places behind_place
-nothing-read strict [] h k = cc h
-nothing-read true (c ∷ text) h k = cc (h, k)
-nothing-read false (c ∷ text) h k = grind (arith, nat_tests)
+nothing-read strict text h k = grind (arith, nat_tests)
 
 pub partial-found : (text : List ℕ) → starts_place text ≡ true → InsideAt text (behind_partial text)
 partial-found text h =
@@ -407,20 +363,6 @@ partial-found text h =
       ]
       | inr off ↦ absurd (omega (arith, partial-less text h, ap length is, ap length (nothing-read strict text h off)))
     ]
-
--- a partial begins with a place
-pub inside-starts : (text rest : List ℕ) → IsInside text → starts_place (text ++ rest) ≡ true
-inside-starts text rest (version t v (written [] x y z pre build w m i j k p q)) =
-    let tail = 46 ∷ (y ++ 46 ∷ (z ++ (pre ++ (build ++ rest)))) in
-    rw (three-append x y z pre build rest) (digit-starts (x ++ tail) ((number-placed x _ i).begin tail))
-  where
-    digit-starts : (text : List ℕ) → starts false text ≡ true → starts_place text ≡ true
-    digit-starts text h = grind arith
-inside-starts text rest (version t v (written (c ∷ mark) x y z pre build w m i j k p q)) = cc m
-inside-starts text rest (partial t p (one x a h)) = (place-placed x a h).begin rest
-inside-starts text rest (partial t p (two x y a b h k)) = rw (append_assoc x (46 ∷ y) rest) ((place-placed x a h).begin (46 ∷ (y ++ rest)))
-inside-starts text rest (partial t p (three x y z pre build a b c ids builds h k l m n g)) =
-    rw (three-append x y z pre build rest) ((place-placed x a h).begin (46 ∷ (y ++ 46 ∷ (z ++ (pre ++ (build ++ rest))))))
 
 -- ---- the digits that count
 

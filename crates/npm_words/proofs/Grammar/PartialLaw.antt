@@ -5,14 +5,15 @@ use Rattle.npm_words.proofs.Common.{and-false, and_parts, ap, append-nil, append
 use Rattle.npm_words.proofs.Common.{bind_some, build_front, capped_one, capped_partial, cases_Bool, common_steps, digits_value, dotted_patch}
 use Rattle.npm_words.proofs.Common.{dotted_place, drop, drop-append-add, drop_at, false, first_as, has_leading_zero, if◌then◌else◌, inl, inr}
 use Rattle.npm_words.proofs.Common.{is_ascii_digit, is_boundary, is_empty, is_none, is_spelled, length, length-append, length-prefix_len, list_all}
-use Rattle.npm_words.proofs.Common.{listed, may_stand, nat_le, nat_lt, nat_tests, not, number_front, number_of, number_with, one, partial_of, patch_place}
-use Rattle.npm_words.proofs.Common.{place_front, pre_front, pre_release_with, prefix_len, qualified_partial, refl, run_place, same_Some, subst, suc}
-use Rattle.npm_words.proofs.Common.{sym, take, take-append-drop, take_at, take_rest, take_while, three, true, two, zero, ℕ, ◌&&◌, ◌++◌, ◌+◌, ◌-◌, ◌<◌}
-use Rattle.npm_words.proofs.{Common.{◌>>?◌, ◌||◌, ◌∙◌, ◌∷◌, ◌≡◌, ◌≤◌}, Grammar.VersionLaw.{At, Ends, Follows, build-ends, build-found, build-taken}}
-use Rattle.npm_words.proofs.Grammar.VersionLaw.{dotted-found, number-short, padded-same, pre-follows, pre-found, pre-taken, strict_is}
-use Rattle.npm_words.specs.{Grammar.IsPreRelease, Internal.Words.{are_short_builds, is_over, places_front, third_front}, Table.Partial}
-use Rattle.semver_core.proofs.Reading.{Bytes.{is_solid, solid-dark}, Numbers.{digits-taken, number-found, number-is, number-no_wildcard}}
-use Rattle.{semver_core.proofs.Reading.Steps.option-cases, std.proofs.lemmas.List.Sums.{prefix_len-drop_all, prefix_len-drop_no, prefix_len-drop_yes}}
+use Rattle.npm_words.proofs.Common.{listed, may_stand, nat_le, nat_lt, nat_tests, not, number_front, number_of, number_with, one, partial_of}
+use Rattle.npm_words.proofs.Common.{patch_place, place_front, pre_front, pre_release_with, prefix_len, qualified_partial, refl, run_place, same_Some}
+use Rattle.npm_words.proofs.Common.{subst, suc, sym, take, take-append-drop, take_at, take_rest, take_while, three, true, two, zero, ℕ, ◌&&◌, ◌++◌}
+use Rattle.npm_words.proofs.{Common.{◌+◌, ◌-◌, ◌<◌, ◌>>?◌, ◌||◌, ◌∙◌, ◌∷◌, ◌≡◌, ◌≤◌}, Grammar.{Runs.run-many, VersionLaw.{At, Ends, Follows}}}
+use Rattle.npm_words.proofs.Grammar.VersionLaw.{build-ends, build-found, build-taken, dotted-found, number-short, padded-same, pre-follows, pre-found}
+use Rattle.npm_words.{proofs.Grammar.VersionLaw.{pre-taken, strict_is}, specs.{Grammar.IsPreRelease, Internal.Words.{are_short_builds, is_over}}}
+use Rattle.{npm_words.specs.{Internal.Words.{places_front, third_front}, Table.Partial}, semver_core.proofs.Reading.Bytes.{is_solid, solid-dark}}
+use Rattle.semver_core.proofs.Reading.{Numbers.{digits-taken, number-found, number-is, number-no_wildcard}, Steps.option-cases}
+use Rattle.std.proofs.lemmas.List.Sums.{prefix_len-drop_all, prefix_len-drop_no, prefix_len-drop_yes}
 use Rattle.npm_words.specs.Partials as Text
 
 pub ruleset prefix_steps = (prefix_len-drop_all, prefix_len-drop_no, prefix_len-drop_yes)
@@ -40,11 +41,6 @@ pub digits_all : (text : List ℕ) → nat_lt (prefix_len is_ascii_digit text) (
 digits_all [] = refl
 digits_all (c ∷ text) = grind (arith, nat_tests, common_steps, digits_all text)
 
-pub digits-many_on : (digits rest : List ℕ) → list_all is_ascii_digit digits ≡ true
-    → prefix_len is_ascii_digit (digits ++ rest) ≡ length digits + prefix_len is_ascii_digit rest
-digits-many_on [] rest h = omega arith
-digits-many_on (c ∷ digits) rest h = grind (arith, nat_tests, common_steps, and_parts, digits-many_on digits rest)
-
 -- ---- what is written is read
 
 place-read : (loose : Bool) (x more : List ℕ) (a : Option ℕ) → IsPlace loose x a → begins is_ascii_digit more ≡ false
@@ -58,21 +54,12 @@ place-read loose x more a (Text.number digits n k spelled short) stop =
 pub patch-exact : (loose : Bool) (run rest : List ℕ) → list_all is_ascii_digit run ≡ true → Follows loose rest
     → (if loose && begins_byte 46 (drop (prefix_len is_ascii_digit (run ++ rest)) (run ++ rest)) then prefix_len is_ascii_digit (run ++ rest) - 1
     else prefix_len is_ascii_digit (run ++ rest)) ≡ length run
-patch-exact loose run rest each f = elim (cases_Bool (begins is_ascii_digit rest)) [
-  | inr stop ↦
-      let dot : begins_byte 46 rest ≡ false = grind (arith, nat_tests) in
-      rw (digits-taken run rest each stop, drop_at run rest (length run) refl, dot, and-false loose) refl
-  | inl digit ↦
-      let free : loose ≡ true = grind (arith, nat_tests) in
-      let dot : begins_byte 46 (drop 1 rest) ≡ true = grind (arith, nat_tests) in
-      let one : prefix_len is_ascii_digit rest ≡ 1 = grind (arith, nat_tests) in
-      rw (digits-many_on run rest each, one, drop-append-add, free, dot) (omega arith)
-]
+patch-exact loose run rest each f =
+    rw (run-many is_ascii_digit run rest each, drop-append-add) (grind (arith, nat_tests, common_steps))
 
 run-read : (loose : Bool) (run rest : List ℕ) (n : ℕ) → IsNumber n run n → is_spelled loose run ≡ true → (loose || nat_le (length run) 257) ≡ true
     → run_place loose run rest ≡ Some (Some n, rest)
-run-read loose [] rest n k spelled short = absurd (omega (arith, k.some))
-run-read loose (c ∷ run) rest n k spelled short = rw (short, spelled) (ap (λ (m : ℕ). Some (Some m, rest)) (sym k.value))
+run-read loose run rest n k spelled short = grind (arith, some-run run, k.some, k.value)
 
 patch-read : (loose : Bool) (run rest : List ℕ) (n : ℕ) → IsNumber n run n → is_spelled loose run ≡ true → (loose || nat_le (length run) 257) ≡ true
     → Follows loose rest → patch_place loose (run ++ rest) ≡ Some (Some n, rest)
@@ -99,12 +86,16 @@ third-read loose fits z pre behind (Some n) l (Text.number run m k spelled short
 
 -- ---- what is read is written
 
+-- digits are the number that they spell
+pub run-number : (run : List ℕ) → 0 < length run → list_all is_ascii_digit run ≡ true → IsNumber (digits_value 10 run) run (digits_value 10 run)
+run-number run some each = record { some = some; each = each; value = refl; safe = omega arith }
+
 run-place : (loose : Bool) (run : List ℕ) → list_all is_ascii_digit run ≡ true
     → (not (is_empty run) && (loose || nat_le (length run) 257) && is_spelled loose run) ≡ true → IsPlace loose run (Some (digits_value 10 run))
 run-place loose [] each h = cc h
 run-place loose (c ∷ run) each h =
     let p = and_parts (loose || nat_le (length (c ∷ run)) 257) (is_spelled loose (c ∷ run)) h in
-    Text.number (c ∷ run) _ (record { some = omega arith; each = each; value = refl; safe = omega arith }) p.1 p.0
+    Text.number (c ∷ run) _ (run-number (c ∷ run) (omega arith) each) p.1 p.0
 
 -- a run of digits that is a place, and what stands behind it
 cut-found : (loose : Bool) (k : ℕ) (text : List ℕ) (a : Option ℕ) (rest : List ℕ) → k ≤ prefix_len is_ascii_digit text
@@ -115,9 +106,7 @@ cut-found loose k text a rest h e =
       | inr none ↦ cc (rw none at e)
       | inl good ↦
           let f = run-place loose run (digits-of k text h) good in
-          let same : ◌≡◌ {A = Front (Option ℕ)} (Some (Some (digits_value 10 run), drop k text)) (Some (a, rest)) = rw good at e in
-          let pair = same_Some _ _ same in
-          record { piece = run; split = sym (take-append-drop k text) ∙ ap (λ (p : Option ℕ × List ℕ). run ++ p.1) pair; is = subst (IsPlace loose run) (ap (λ (p : Option ℕ × List ℕ). p.0) pair) f }
+          grind (arith, take-append-drop k text)
     ]
 
 place-found : (loose : Bool) (text : List ℕ) (a : Option ℕ) (rest : List ℕ) → place_front loose text ≡ Some (a, rest)
@@ -169,15 +158,6 @@ places-read loose x more p (three x1 y z pre build a b c ids builds h k l m n t)
 
 -- ---- what is read is written
 
--- what was found, and what was asked for
-places-at : (loose : Bool) (text piece : List ℕ) (p : Partial) (rest : List ℕ) {q : Partial × List ℕ} → IsPlaces loose piece q.0 → q ≡ (p, rest)
-    → text ≡ piece ++ q.1 → At (IsPlaces loose) text p rest
-places-at loose text piece p rest is e split = record {
-  piece = piece;
-  split = split ∙ ap (λ (q : Partial × List ℕ). piece ++ q.1) e;
-  is = subst (λ (q : Partial × List ℕ). IsPlaces loose piece q.0) e is;
-}
-
 qualified-found : (loose : Bool) (a b c : Option ℕ) (x y z text : List ℕ) (p : Partial) (rest : List ℕ) → IsPlace loose x a → IsPlace loose y b
     → IsPlace loose z c → qualified_partial loose a b c text ≡ Some (p, rest) → At (IsPlaces loose) (x ++ 46 ∷ (y ++ 46 ∷ (z ++ text))) p rest
 unfolding qualified_partial
@@ -192,9 +172,11 @@ qualified-found loose a b c x y z text p rest i j k h =
           let g = build-found front.1 in
           let is = three x y z f.0 g.0 a b c _ _ i j k f.2 g.2 (rw g.3 parts.1) in
           let same : ◌≡◌ {A = Front Partial} (Some (partial_of a b c (listed front.0) (listed last.0), last.1)) (Some (p, rest)) = rw good at h in
-          places-at loose _ _ p rest is (same_Some _ _ same)
-          (ap (λ (t : List ℕ). x ++ 46 ∷ (y ++ 46 ∷ (z ++ t))) (f.1 ∙ ap (λ (t : List ℕ). f.0 ++ t) g.1)
-          ∙ grind (arith, append_assoc))
+          subst (λ (q : Partial × List ℕ). At (IsPlaces loose) (x ++ 46 ∷ (y ++ 46 ∷ (z ++ text))) q.0 q.1) (same_Some _ _ same) (record {
+            piece = x ++ 46 ∷ (y ++ 46 ∷ (z ++ (f.0 ++ g.0)));
+            split = ap (λ (t : List ℕ). x ++ 46 ∷ (y ++ 46 ∷ (z ++ t))) (f.1 ∙ ap (λ (t : List ℕ). f.0 ++ t) g.1) ∙ grind (arith, append_assoc);
+            is = is;
+          })
     ]
 
 pub places-found : (loose : Bool) (text : List ℕ) (p : Partial) (rest : List ℕ) → places_front loose text ≡ Some (p, rest)
@@ -205,16 +187,15 @@ places-found loose text p rest h =
     let x = place-found loose text a.0.0 a.0.1 a.1 in
     elim (option-cases (dotted_place loose a.0.1)) [
       | inl none ↦
-          let end : ◌≡◌ {A = Front Partial} (Some (partial_of a.0.0 None None [] [], a.0.1)) (Some (p, rest)) = rw none at a.2 in
-          places-at loose text x.piece p rest (one x.piece a.0.0 x.is) (same_Some _ _ end) x.split
+          let is : IsPlaces loose x.piece (partial_of a.0.0 None None [] []) = one x.piece a.0.0 x.is in
+          grind arith
       | inr b ↦
           let y = dotted-found (IsPlace loose) (place_front loose) a.0.1 b.0.0 b.0.1 (λ t e. place-found loose t b.0.0 b.0.1 e) b.1 in
           let third = rw b.1 at a.2 in
           elim (option-cases (dotted_patch loose b.0.1)) [
             | inl none ↦
-                let end : ◌≡◌ {A = Front Partial} (Some (partial_of a.0.0 b.0.0 None [] [], b.0.1)) (Some (p, rest)) = rw none at third in
-                places-at loose text _ p rest (two x.piece y.0 a.0.0 b.0.0 x.is y.2) (same_Some _ _ end)
-                (x.split ∙ ap (λ (t : List ℕ). x.piece ++ t) y.1 ∙ sym (append_assoc x.piece (46 ∷ y.0) b.0.1))
+                let is : IsPlaces loose (x.piece ++ 46 ∷ y.0) (partial_of a.0.0 b.0.0 None [] []) = two x.piece y.0 a.0.0 b.0.0 x.is y.2 in
+                grind (arith, append_assoc)
             | inr c ↦
                 let z = dotted-found (IsPlace loose) (patch_place loose) b.0.1 c.0.0 c.0.1 (λ t e. patch-found loose t c.0.0 c.0.1 e) c.1 in
                 let whole : x.piece ++ 46 ∷ (y.0 ++ 46 ∷ (z.0 ++ c.0.1)) ≡ text = cc (x.split, y.1, z.1) in

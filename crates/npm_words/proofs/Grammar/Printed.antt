@@ -5,12 +5,12 @@ use Rattle.npm_words.proofs.Common.{MAX_LENGTH, MAX_SAFE_INTEGER, Numbers, Versi
 use Rattle.npm_words.proofs.Common.{both_ways, bytes_eq, bytes_eq-Decides, capped_partial, cases_Bool, chars, chars_from_encodes, codes, common_steps}
 use Rattle.npm_words.proofs.Common.{compared, dashed, decimal, empty_is, encode_utf8_all, eqb-true, false, first, from, hyphen_lower, hyphen_upper}
 use Rattle.npm_words.proofs.Common.{id_text, identifier_of, inl, inr, is_ascii_digit, is_identifier, is_identifier_char, is_release}
-use Rattle.npm_words.proofs.Common.{is_strict_identifier, is_valid, is_zero, join_with_byte, length, length-append, list_all, major, map, marked_list}
-use Rattle.npm_words.proofs.Common.{minor, nat_le, nat_tests, no_build, no_pre_release, pieces, refl, release, subst, sym, true, under, version_text}
-use Rattle.npm_words.proofs.Common.{whole, wildcard, within, ℕ, ◌&&◌, ◌++◌, ◌+◌, ◌<◌, ◌==◌, ◌^◌, ◌||◌, ◌∙◌, ◌∷◌, ◌≡◌, ◌≤◌}
-use Rattle.npm_words.proofs.{FlawPlaces.Read.{plain-encodes, plain-middle, plain-trim}, Grammar.VersionLaw.{digits_printed, number_printed}}
-use Rattle.npm_words.specs.{Grammar.written, Internal.Words.capped, Table.{Partial, Sign, lowest, table}}
-use Rattle.semver_core.{proofs.Printing.Returns.{decimal_digits, decimal_some}, specs.{Internal.CommonReading.is_plain, Text.Identifiers.is_u64_text}}
+use Rattle.npm_words.proofs.Common.{is_strict_identifier, is_valid, is_zero, join_with_byte, length, length-append, list_all, map, marked_list}
+use Rattle.npm_words.proofs.Common.{nat_le, nat_tests, no_build, no_pre_release, pieces, refl, release, subst, sym, true, under, version_text, whole}
+use Rattle.npm_words.proofs.{Common.{within, ℕ, ◌&&◌, ◌++◌, ◌+◌, ◌<◌, ◌==◌, ◌^◌, ◌||◌, ◌∙◌, ◌∷◌, ◌≡◌, ◌≤◌}, FlawPlaces.Read.plain-encodes}
+use Rattle.npm_words.{proofs.{FlawPlaces.Read.{plain-middle, plain-trim}, Grammar.VersionLaw.{digits_printed, number_printed}}, specs.Grammar.written}
+use Rattle.{npm_words.specs.{Internal.Words.capped, Table.{Partial, Sign, lowest, table}}, semver_core.proofs.Printing.Returns.decimal_digits}
+use Rattle.semver_core.{proofs.Printing.Returns.decimal_some, specs.{Internal.CommonReading.is_plain, Text.Identifiers.is_u64_text}}
 use Rattle.std.proofs.lemmas.{Fmt.{decimal_digit, decimal_injective, length-decimal-le}, List.Splits.{join_with_byte-slice_split, length-slice_split}}
 use Rattle.std.{proofs.lemmas.Str.{IsUtf8-from_ascii, chars-IsAscii}, specs.Str.IsAscii}
 use Rattle.npm_words.specs.Internal.Parts as Parts
@@ -83,10 +83,7 @@ table-invalid include s p text h = grind (arith, past-next)
 
 pub lower-invalid : (c : Comparator) (include : Bool) (p : Partial) (text : List ℕ) → within (first p) ≡ false
     → list_all (is_valid MAX_SAFE_INTEGER) (hyphen_lower c include p text) ≡ false
-lower-invalid c include wildcard text h = cc h
-lower-invalid c include (major M) text h = table-invalid include (compared at_least) (major M) text h
-lower-invalid c include (minor M m) text h = table-invalid include (compared at_least) (minor M m) text h
-lower-invalid c include (whole v) text h = grind (arith, table-invalid)
+lower-invalid c include p text h = let same = table-invalid include (compared at_least) p text h in grind (arith, table-invalid)
 
 pub upper-invalid : (c : Comparator) (include : Bool) (p : Partial) (text : List ℕ) → within (first p) ≡ false
     → list_all (is_valid MAX_SAFE_INTEGER) (hyphen_upper c include p text) ≡ false
@@ -95,7 +92,7 @@ upper-invalid c include p text h = grind (arith, nat_tests, common_steps, table-
 -- ---- numbers past the limit as the code has them
 
 capped-le : (n : ℕ) → nat_le (capped n) MAX_SAFE_INTEGER ≡ nat_le n MAX_SAFE_INTEGER
-capped-le n = elim (cases_Bool (nat_le n MAX_SAFE_INTEGER)) [ inl small ↦ rw small small | inr great ↦ rw great refl ]
+capped-le n = grind arith
 
 pub capped-within : (p : Partial) → within (first (capped_partial p)) ≡ within (first p)
 capped-within p = grind (arith, capped-le)
@@ -166,12 +163,8 @@ middle_short text middle u t h =
     let same : t.characters ≡ chars middle = chars_from_encodes t.characters middle (IsUtf8-from_ascii middle ascii) (sym t.middle_is) in
     grind (arith, nat_tests, common_steps, chars_from_encodes, chars-IsAscii, ascii, length-append)
 
-shorter : (a b c d e f p q m k : List ℕ) → a ≡ d → b ≡ e → c ≡ f → p ≡ q
-    → length (a ++ 46 ∷ (b ++ 46 ∷ (c ++ (p ++ [])))) ≤ length (m ++ (d ++ 46 ∷ (e ++ 46 ∷ (f ++ (q ++ k)))))
-shorter a b c d e f p q m k h g l n = rw (h, g, l, n) (grind (arith, length-append))
-
 printed_short : (text : List ℕ) (v : VersionValue) → IsStrictVersion MAX_SAFE_INTEGER text v → length (version_text (Parts.no_build v)) ≤ length text
-printed_short text v (written mark x y z pre build w m i j k p q) = grind (arith, nat_tests, common_steps, shorter, number_printed, pre_printed)
+printed_short text v (written mark x y z pre build w m i j k p q) = grind (arith, nat_tests, common_steps, number_printed, pre_printed, length-append)
 
 pub reread : (text : List ℕ) (v : VersionValue) → IsUtf8 text → IsVersionText MAX_SAFE_INTEGER text v
     → IsVersionText MAX_SAFE_INTEGER (version_text (Parts.no_build v)) (Parts.no_build v)
@@ -179,18 +172,6 @@ pub reread : (text : List ℕ) (v : VersionValue) → IsUtf8 text → IsVersionT
 reread text v u (short, middle, trimmed, h) =
     let is = printed middle v h in
     let all = plain-middle MAX_SAFE_INTEGER (version_text (Parts.no_build v)) (Parts.no_build v) is in
-    let same : chars (version_text (Parts.no_build v)) ≡ version_text (Parts.no_build v) = chars-IsAscii _ (all_ascii _ all) in (
-      (
-        omega (
-          arith,
-          short,
-          ap length same,
-          printed_short middle v h,
-          middle_short text middle u trimmed (plain-middle MAX_SAFE_INTEGER middle v h),
-        ),
-        version_text (Parts.no_build v),
-        plain_trim _ all,
-        is,
-      ),
-      all,
-    )
+    let same : chars (version_text (Parts.no_build v)) ≡ version_text (Parts.no_build v) = chars-IsAscii _ (all_ascii _ all) in
+    let few = middle_short text middle u trimmed (plain-middle MAX_SAFE_INTEGER middle v h) in
+    ((omega (arith, short, ap length same, printed_short middle v h, few), version_text (Parts.no_build v), plain_trim _ all, is), all)

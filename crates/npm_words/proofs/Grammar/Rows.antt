@@ -3,11 +3,11 @@
 use Rattle.npm_words.proofs.Common.{AreRead, Before, Bool, Bound, Bounds, Comparator, Comparison, IsCommon, IsNarrowed, List, MAX_LENGTH}
 use Rattle.npm_words.proofs.Common.{MAX_SAFE_INTEGER, None, Numbers, Option, Some, Span, Unbounded, VersionValue, [], ap, ap₂, are_normal, arith}
 use Rattle.npm_words.proofs.Common.{at_least, at_most, below, both_ways, bytes_eq, bytes_eq-Decides, caret_from, cases_Bool, codes, common_steps}
-use Rattle.npm_words.proofs.Common.{compared, cond_both, counted, counts, equal, false, filter-append, first, from, greater_lower, holds}
-use Rattle.npm_words.proofs.Common.{if◌then◌else◌, inl, inr, interval, is_empty, is_gt, is_interval, is_past, is_range_bound, is_readable, is_valid}
-use Rattle.npm_words.proofs.Common.{is_zero, length, lesser_upper, lets_in, list_all, lower_cut, map, nat_le, nat_tests, next_changed, not}
-use Rattle.npm_words.proofs.Common.{precedence, precedence_total, refl, sym, true, under, upper_cut, version_text, whole, within, ℕ, ◌&&◌, ◌++◌, ◌+◌}
-use Rattle.npm_words.{proofs.{Common.{◌||◌, ◌∙◌, ◌∷◌, ◌≡◌, ◌⊎◌}, Grammar.Printed.{from_valid, prints_zero, under_valid}}, specs.Alternatives.common}
+use Rattle.npm_words.proofs.Common.{compared, counted, counts, equal, false, filter-append, first, from, greater_lower, holds, if◌then◌else◌, inl}
+use Rattle.npm_words.proofs.Common.{inr, interval, is_empty, is_gt, is_interval, is_past, is_range_bound, is_readable, is_valid, is_zero, length}
+use Rattle.npm_words.proofs.Common.{lesser_upper, lets_in, list_all, lower_cut, map, nat_le, nat_tests, next_changed, not, precedence}
+use Rattle.npm_words.proofs.Common.{precedence_total, refl, sym, true, under, upper_cut, version_text, whole, within, ℕ, ◌&&◌, ◌++◌, ◌+◌, ◌||◌, ◌∙◌}
+use Rattle.npm_words.{proofs.{Common.{◌∷◌, ◌≡◌, ◌⊎◌}, Grammar.Printed.{from_valid, prints_zero, under_valid}}, specs.Alternatives.common}
 use Rattle.npm_words.specs.{Alternatives.satisfying, Internal.{Alternatives.met, Meaning.{common_in, is_part}, Parts.{AreZeros, has_no_comparators}}}
 use Rattle.npm_words.specs.{Internal.Parts.{is_padded, no_build, noted}, Table.{Partial, Sign, caret, lowest, next, table, tilde, unbuilt}}
 use Rattle.{npm_words.specs.Table.written_zeros, semver_core.proofs.CutLaws.{between, cut_total, gt_lt, is_past-greater_lower, is_past-lesser_upper}}
@@ -32,18 +32,12 @@ everything = record { lower = Unbounded; upper = Unbounded }
 open_upper : (b : Bound VersionValue) → greater_lower precedence b Unbounded ≡ b
 open_upper b = grind arith
 
-open_lower : (b : Bound VersionValue) → lesser_upper precedence b Unbounded ≡ b
-open_lower b = grind arith
-
-common-one : (s : Span VersionValue) → both s everything ≡ s
-common-one s = rw (open_upper s.lower, open_lower s.upper) refl
-
 -- the bounds are of that version, whose numbers may be greater by one
 pub one_common : (include : Bool) (c : Comparator) (w : VersionValue) (text : List ℕ)
     → is_readable MAX_SAFE_INTEGER w ≡ true → counts include (comparison c w text) ≡ true
     → IsCommon include (comparison c w text ∷ []) (satisfying (comparison c w text))
 one_common include c w text r h = record {
-  is = rw h (sym (common-one (satisfying (comparison c w text))));
+  is = rw h (grind arith);
   lower = grind (arith, nat_tests, common_steps);
   upper = grind (arith, nat_tests, common_steps);
 }
@@ -75,39 +69,22 @@ gt_trans : (a b c : Cut VersionValue) → is_gt (cut_cmp precedence a b) ≡ tru
     → is_gt (cut_cmp precedence a c) ≡ true
 gt_trans a b c p q = gt_lt precedence_total a c ∙ lt_trans precedence_total c b a (sym (gt_lt precedence_total b c) ∙ q) (sym (gt_lt precedence_total a b) ∙ p)
 
-upto_upto : (a b c : Cut VersionValue) → is_gt (cut_cmp precedence a b) ≡ false → is_gt (cut_cmp precedence b c) ≡ false
-    → is_gt (cut_cmp precedence a c) ≡ false
-upto_upto a b c p q = upto (cut_total precedence_total) a b c p q
-
--- of three bounds it does not matter which two are compared first
-greater_of_three : (b c d : Bound VersionValue)
-    → greater_lower precedence b (greater_lower precedence c d) ≡ greater_lower precedence (greater_lower precedence b c) d
-greater_of_three b c d = elim (cases_Bool (is_gt (cut_cmp precedence (lower_cut b) (lower_cut c)))) [
-  | inl p ↦ elim (cases_Bool (is_gt (cut_cmp precedence (lower_cut c) (lower_cut d)))) [
-    | inl q ↦ rw (q, p, gt_trans (lower_cut b) (lower_cut c) (lower_cut d) p q) refl
-    | inr q ↦ rw (q, p) refl
-  ]
-  | inr p ↦ elim (cases_Bool (is_gt (cut_cmp precedence (lower_cut c) (lower_cut d)))) [
-    | inl q ↦ rw (q, p, q) refl
-    | inr q ↦ rw (q, p, q, upto_upto (lower_cut b) (lower_cut c) (lower_cut d) p q) refl
-  ]
-]
-
-lesser_of_three : (b c d : Bound VersionValue)
-    → lesser_upper precedence b (lesser_upper precedence c d) ≡ lesser_upper precedence (lesser_upper precedence b c) d
-lesser_of_three b c d = elim (cases_Bool (is_gt (cut_cmp precedence (upper_cut b) (upper_cut c)))) [
-  | inl p ↦ elim (cases_Bool (is_gt (cut_cmp precedence (upper_cut c) (upper_cut d)))) [
-    | inl q ↦ rw (q, p, q, gt_trans (upper_cut b) (upper_cut c) (upper_cut d) p q) refl
-    | inr q ↦ rw (q, p, q) refl
-  ]
-  | inr p ↦ elim (cases_Bool (is_gt (cut_cmp precedence (upper_cut c) (upper_cut d)))) [
-    | inl q ↦ rw (q, p) refl
-    | inr q ↦ rw (q, p, upto_upto (upper_cut b) (upper_cut c) (upper_cut d) p q) refl
-  ]
-]
+-- of three bounds it does not matter which two are compared first, be it for the greater one or for the lesser one
+of_three : {A B : Type 0} (is_above : B → B → Bool) (cut : A → B) → ((x y z : B) → is_above x y ≡ true → is_above y z ≡ true → is_above x z ≡ true)
+    → ((x y z : B) → is_above x y ≡ false → is_above y z ≡ false → is_above x z ≡ false) → (b c d : A)
+    → (let greater = λ (x y : A). if is_above (cut x) (cut y) then x else y in greater b (greater c d) ≡ greater (greater b c) d)
+    × (let lesser = λ (x y : A). if is_above (cut x) (cut y) then y else x in lesser b (lesser c d) ≡ lesser (lesser b c) d)
+of_three is_above cut f g b c d =
+    let on = f (cut b) (cut c) (cut d) in
+    let off = g (cut b) (cut c) (cut d) in
+    (grind arith, grind arith)
 
 both-both : (s t u : Span VersionValue) → both s (both t u) ≡ both (both s t) u
-both-both s t u = rw (greater_of_three s.lower t.lower u.lower, lesser_of_three s.upper t.upper u.upper) refl
+both-both s t u =
+    let is_above = λ (x y : Cut VersionValue). is_gt (cut_cmp precedence x y) in
+    let lower = of_three is_above lower_cut gt_trans (upto (cut_total precedence_total)) s.lower t.lower u.lower in
+    let upper = of_three is_above upper_cut gt_trans (upto (cut_total precedence_total)) s.upper t.upper u.upper in
+    rw (lower.0, upper.1) refl
 
 common-append : (ss ts : List (Span VersionValue)) → common (ss ++ ts) ≡ both (common ss) (common ts)
 common-append [] ts = grind arith
@@ -172,14 +149,10 @@ module _ (include padded : Bool) (v : VersionValue) where
   pub from_some : within (first (whole v)) ≡ true → are_normal (whole v) ≡ true
       → (include ≡ true) ⊎ (padded ≡ true) ⊎ (IsVersion v × (is_zero (no_build v) ≡ false)) → Reads (Spans.>= v) (noted padded low)
   from_some w n some =
-      cond_both (padded && bytes_eq low.text (codes "0.0.0")) (record low { text = codes "00.0.0" }) low
-      (λ c. counts include c ≡ true → Reads (Spans.>= v) c) (λ _. reads (codes "00.0.0")) (λ _. reads low.text) counted_low
-    where
-      reads : (text : List ℕ) → counts include (comparison at_least v text) ≡ true → Reads (Spans.>= v) (comparison at_least v text)
-      reads text h = one_common include at_least v text (whole_readable v w n) h
-
-      counted_low : counts include (noted padded low) ≡ true
-      counted_low = grind (arith, nat_tests, common_steps, zero_of)
+      let reads = λ (text : List ℕ). one_common include at_least v text (whole_readable v w n) in
+      let padded_reads = reads (codes "00.0.0") in
+      let plain_reads = reads low.text in
+      grind (arith, nat_tests, common_steps, zero_of)
 
 pub noted_valid : (padded : Bool) (c : Comparison) → is_valid MAX_SAFE_INTEGER (noted padded c) ≡ is_valid MAX_SAFE_INTEGER c
 noted_valid padded c = grind (arith, nat_tests, common_steps, bytes_eq-Decides)

@@ -23,6 +23,13 @@ blank-at text u =
     let s = skips-is text u in
     record { blank = s.0; is = s.2; split = s.1; utf8 = skips-utf8 text (drop_spaces text) s u }
 
+-- the text behind a byte, and the whitespace there
+behind-byte : (c : ℕ) (text : List ℕ) → c < 128 → IsUtf8 text → begins_byte c text ≡ true → IsUtf8 (drop 1 text)
+behind-byte c text low u mark = tail-utf8 c (drop 1 text) low (subst (λ (t : List ℕ). IsUtf8 t) (byte-begins c text mark) u)
+
+blank-behind : (text : List ℕ) → IsUtf8 text → begins_byte 61 text ≡ true → BlankAt (drop 1 text)
+blank-behind text u mark = blank-at (drop 1 text) (behind-byte 61 text (omega arith) u mark)
+
 pub blank-nil : IsBlank []
 blank-nil = record { characters = []; each = refl; spelled = refl }
 
@@ -42,10 +49,7 @@ equal-found : (b : ℕ) (x text : List ℕ) (s : Sign) → IsBlank x → IsUtf8 
     → ((y : List ℕ) → IsBlank y → IsSignText (b ∷ (x ++ 61 ∷ y)) s) → SignAt (b ∷ (x ++ text)) s (skip_equal text)
 equal-found b x text s blank u bare more = elim (cases_Bool (begins_byte 61 text)) [
   | inr other ↦ rw other (record { signs = b ∷ x; split = refl; is = bare; utf8 = u })
-  | inl mark ↦
-      let y = blank-at (drop 1 text) (tail-utf8 61 (drop 1 text) (omega arith) (subst (λ (t : List ℕ). IsUtf8 t) (byte-begins 61 text mark) u)) in
-      let is = more y.blank y.is in
-      grind (arith, nat_tests, common_steps, append_assoc)
+  | inl mark ↦ let y = blank-behind text u mark in let is = more y.blank y.is in grind (arith, nat_tests, common_steps, append_assoc)
 ]
 
 -- `>` or `<`, behind which `=` may stand, also late
@@ -55,19 +59,12 @@ late-found : (b : ℕ) (one two : Comparator) (text : List ℕ) → IsUtf8 text
     → SignRead (b ∷ text) (or_late one two text (drop_spaces text))
 late-found b one two text u is_one is_two is_late =
     let x = blank-at text u in
+    let one_is = is_one x.blank x.is in
+    let late_is = is_late x.blank x.is in
+    let behind = behind-byte 61 (drop_spaces text) (omega arith) x.utf8 in
     elim (cases_Bool (begins_byte 61 text)) [
-      | inl mark ↦
-          let y = blank-at (drop 1 text) (tail-utf8 61 (drop 1 text) (omega arith) (subst (λ (t : List ℕ). IsUtf8 t) (byte-begins 61 text mark) u)) in
-          let is = is_two y.blank y.is in
-          grind (arith, nat_tests, common_steps)
-      | inr other ↦ elim (cases_Bool (begins_byte 61 (drop_spaces text))) [
-        | inl mark ↦
-            let rest = drop_spaces text in
-            let is = is_late x.blank x.is in
-            let utf8 = tail-utf8 61 (drop 1 rest) (omega arith) (subst (λ (t : List ℕ). IsUtf8 t) (byte-begins 61 rest mark) x.utf8) in
-            grind (arith, nat_tests, common_steps, append_assoc)
-        | inr none ↦ let is = is_one x.blank x.is in grind (arith, nat_tests, common_steps)
-      ]
+      | inl mark ↦ let y = blank-behind text u mark in let is = is_two y.blank y.is in grind (arith, nat_tests, common_steps)
+      | inr other ↦ grind (arith, nat_tests, common_steps, append_assoc)
     ]
 
 -- `>` or `>=`, and whitespace
@@ -82,14 +79,12 @@ record GreaterAt (text rest : List ℕ) : Type 0 where
 greater-found : (text : List ℕ) → IsUtf8 text → GreaterAt (62 ∷ text) (skip_greater text)
 greater-found text u = elim (cases_Bool (begins_byte 61 text)) [
   | inl mark ↦
-      let e = byte-begins 61 text mark in
-      let y = blank-at (drop 1 text) (tail-utf8 61 (drop 1 text) (omega arith) (subst (λ (t : List ℕ). IsUtf8 t) e u)) in
-      let split = ap (λ (t : List ℕ). 62 ∷ t) (e ∙ ap (λ (t : List ℕ). 61 ∷ t) y.split) in
-      rw mark (record { sign_is = at_least; either = inr refl; blank = y.blank; is = y.is; split = split; utf8 = y.utf8 })
+      let y = blank-behind text u mark in
+      let split = byte-begins 61 text mark ∙ ap (λ (t : List ℕ). 61 ∷ t) y.split in
+      rw mark (record { sign_is = at_least; either = inr refl; blank = y.blank; is = y.is; split = ap (λ (t : List ℕ). 62 ∷ t) split; utf8 = y.utf8 })
   | inr other ↦
       let y = blank-at text u in
-      let split = ap (λ (t : List ℕ). 62 ∷ t) y.split in
-      rw other (record { sign_is = above; either = inl refl; blank = y.blank; is = y.is; split = split; utf8 = y.utf8 })
+      rw other (record { sign_is = above; either = inl refl; blank = y.blank; is = y.is; split = ap (λ (t : List ℕ). 62 ∷ t) y.split; utf8 = y.utf8 })
 ]
 
 -- `~`, whitespace, and `>` or `>=`
@@ -111,31 +106,22 @@ twice-found text u = elim (cases_Bool (nat_lt 0 (space_len text) && begins_byte 
   | inl more ↦
       let parts = and_parts (nat_lt 0 (space_len text)) (begins_byte 62 (drop_spaces text)) more in
       let x = blank-at text u in
-      let e = byte-begins 62 (drop_spaces text) parts.1 in
-      let behind = drop 1 (drop_spaces text) in
-      let whole = x.split ∙ ap (λ (t : List ℕ). x.blank ++ t) e in
-      let g = greater-found behind (tail-utf8 62 behind (omega arith) (subst (λ (t : List ℕ). IsUtf8 t) e x.utf8)) in
-      let is = tilde_twice g.sign_is x.blank g.blank x.is (some-blank text x.blank behind parts.0 whole) g.is g.either in
+      let whole = x.split ∙ ap (λ (t : List ℕ). x.blank ++ t) (byte-begins 62 (drop_spaces text) parts.1) in
+      let g = greater-found _ (behind-byte 62 (drop_spaces text) (omega arith) x.utf8 parts.1) in
+      let is = tilde_twice g.sign_is x.blank g.blank x.is (some-blank text x.blank _ parts.0 whole) g.is g.either in
       grind (arith, nat_tests, common_steps, append_assoc)
 ]
 
 tilde-found : (text : List ℕ) → IsUtf8 text → SignAt (126 ∷ text) tilde (skip_tilde text (drop_spaces text))
 tilde-found text u =
-    let x = blank-at _ u in
+    let x = blank-at text u in
     elim (cases_Bool (begins_byte 62 text)) [
-      | inl mark ↦
-          let e = byte-begins _ _ mark in
-          let f = twice-found _ (tail-utf8 _ _ (omega arith) (subst (λ (t : List ℕ). IsUtf8 t) e u)) in
-          rw mark (record { signs = f.signs; split = ap (λ (t : List ℕ). 126 ∷ t) e ∙ f.split; is = f.is; utf8 = f.utf8 })
+      | inl mark ↦ let f = twice-found _ (behind-byte 62 text (omega arith) u mark) in grind (arith, nat_tests, common_steps)
       | inr other ↦ elim (cases_Bool (begins_byte 62 (drop_spaces text))) [
-        | inl mark ↦
-            let behind = drop 1 (drop_spaces text) in
-            let f = tilde-greater _ _ x.is (tail-utf8 _ _ (omega arith) (subst (λ (t : List ℕ). IsUtf8 t) (byte-begins _ _ mark) x.utf8)) in
-            grind (arith, nat_tests, common_steps)
+        | inl mark ↦ let f = tilde-greater _ _ x.is (behind-byte 62 (drop_spaces text) (omega arith) x.utf8 mark) in grind (arith, nat_tests, common_steps)
         | inr none ↦
-            let f = equal-found _ _ _ _ x.is x.utf8 (sign tilde x.blank x.is)
-            (λ y h. tilde_sign equal x.blank y x.is h (inr (inr refl))) in
-            rw (other, none) (record { signs = f.signs; split = ap (λ (t : List ℕ). 126 ∷ t) x.split ∙ f.split; is = f.is; utf8 = f.utf8 })
+            let f = equal-found _ _ _ _ x.is x.utf8 (sign tilde x.blank x.is) (λ y h. tilde_sign equal x.blank y x.is h (inr (inr refl))) in
+            grind (arith, nat_tests, common_steps)
       ]
     ]
 
@@ -143,12 +129,10 @@ caret-found : (text : List ℕ) → IsUtf8 text → SignAt (94 ∷ text) caret (
 caret-found text u =
     let x = blank-at text u in
     let f = equal-found 94 x.blank (drop_spaces text) caret x.is x.utf8 (sign caret x.blank x.is) (λ y h. caret_equal x.blank y x.is h) in
-    record { signs = f.signs; split = ap (λ (t : List ℕ). 94 ∷ t) x.split ∙ f.split; is = f.is; utf8 = f.utf8 }
+    grind (arith, common_steps)
 
 plain-found : (text : List ℕ) → IsUtf8 text → SignAt (61 ∷ text) (compared equal) (drop_spaces text)
-plain-found text u =
-    let x = blank-at text u in
-    record { signs = 61 ∷ x.blank; split = ap (λ (t : List ℕ). 61 ∷ t) x.split; is = sign (compared equal) x.blank x.is; utf8 = x.utf8 }
+plain-found text u = let x = blank-at text u in let is = sign (compared equal) x.blank x.is in grind (arith, common_steps)
 
 -- the same of a character that is this one or another
 on-byte : (b k : ℕ) (rest : List ℕ) (r s : Sign × List ℕ) → k < 128 → IsUtf8 (b ∷ rest) → (IsUtf8 rest → SignRead (k ∷ rest) r)

@@ -1,10 +1,10 @@
 -- Version texts of the strict reading: numbers without leading zeros, pre-releases, builds and whole texts. What is read is written, and what is
 -- written is read.
-use Rattle.npm_words.proofs.Common.{Bool, Id, IsIdentifiers, IsPieceAt, IsStrictBuild, IsStrictNumber, IsUtf8, IsWholeNumber, List, MAX_SAFE_INTEGER, empty_is}
+use Rattle.npm_words.proofs.Common.{Bool, Id, IsIdentifiers, IsPieceAt, IsStrictBuild, IsStrictNumber, IsUtf8, IsWholeNumber, List, MAX_SAFE_INTEGER}
 use Rattle.npm_words.proofs.Common.{None, Some, [], after_byte, and-false, and_from, and_parts, append-nil, arith, bare, begins, begins_byte}
 use Rattle.npm_words.proofs.Common.{begins_identifier, begins_padded, begins_undashed, bind_some, build_front, cases_Bool, chars, chars_from_encodes}
-use Rattle.npm_words.proofs.Common.{common_steps, dashed, decimal, digits_value, drop, false, goes_on, has_leading_zero, if◌then◌else◌, inl, inr}
-use Rattle.npm_words.proofs.Common.{is_ascii_digit, is_empty, is_identifier_char, length, list_all, list_len, listed, nat_tests, no_build}
+use Rattle.npm_words.proofs.Common.{common_steps, dashed, decimal, digits_value, drop, empty_is, false, goes_on, has_leading_zero, if◌then◌else◌, inl}
+use Rattle.npm_words.proofs.Common.{inr, is_ascii_digit, is_empty, is_identifier_char, length, list_all, list_len, listed, nat_tests, no_build}
 use Rattle.npm_words.proofs.Common.{no_pre_release, not, number_front, number_with, plus, pre_front, pre_release_front, pre_release_with, refl, sym}
 use Rattle.npm_words.proofs.Common.{take, take-append-drop, take_rest, true, ℕ, ◌&&◌, ◌++◌, ◌-◌, ◌<◌, ◌==◌, ◌>>?◌, ◌^◌, ◌||◌, ◌∷◌, ◌≡◌, ◌≤◌, ◌⊎◌}
 use Rattle.{npm_words.specs.Grammar.{IsPreRelease, IsWritten, written}, semver_core.proofs.Reading.{Boundaries.byte-is, Bytes.is_solid}}
@@ -115,10 +115,7 @@ letter-on wild (c ∷ text) more h k = grind (arith, nat_tests, common_steps)
 
 -- the letters that begin it stand in its list of identifiers
 letter-off : (wild : Bool) (text more : List ℕ) → begins_undashed wild (text ++ more) ≡ true → goes_on more ≡ false → begins_undashed wild text ≡ true
-letter-off wild [] more h k = grind (arith, nat_tests)
-letter-off wild (b ∷ []) more h k = grind (arith, nat_tests)
-letter-off wild (b ∷ c ∷ []) more h k = grind (arith, nat_tests)
-letter-off wild (b ∷ c ∷ d ∷ text) more h k = h
+letter-off wild text more h k = grind (arith, nat_tests)
 
 -- a pre-release at the front of a text, of which this is read
 abbrev pub PreFound : Bool → Bool → (List ℕ → Bool) → List ℕ → List ℕ → List ℕ → Type 0

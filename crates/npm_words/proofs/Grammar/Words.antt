@@ -1,14 +1,14 @@
 -- The words of node-semver's range texts: the functions that read them find exactly what the statement has, one word after another.
 use Rattle.npm_words.proofs.Common.{AreWords, BeginsAs, BeginsWord, Bool, Comparison, Front, IsBlank, IsPlace, IsPlaces, IsUtf8, IsWord, List}
 use Rattle.npm_words.proofs.Common.{NoValue, None, Option, Signed, Some, [], and_parts, ap, append-nil, append_assoc, are_marks, arith, begins_byte}
-use Rattle.npm_words.proofs.Common.{behind_ignored, bind_some, capped_in, capped_partial, cases_Bool, common_steps, cond_some, drop, drop_at}
-use Rattle.npm_words.proofs.Common.{drop_spaces, eqb-true, false, first_as, first_word, inl, inr, is_boundary, is_empty, is_lost, is_mark}
-use Rattle.npm_words.proofs.Common.{is_short_word, length, length-append, list_all, marked_word, marks_len, nat_tests, npm_sign, refl, same_Some}
-use Rattle.npm_words.proofs.Common.{signed_word, space_len, subst, suc, sym, take, take-append-drop, take_at, take_rest, true, word, words_within}
-use Rattle.npm_words.proofs.{Common.{zero, ℕ, ◌&&◌, ◌++◌, ◌-◌, ◌<◌, ◌==◌, ◌>>?◌, ◌||◌, ◌∙◌, ◌∷◌, ◌≡◌, ◌≤◌}, Grammar.Ignored.ignored-found}
-use Rattle.npm_words.proofs.Grammar.{Ignored.ignored-read, PartialLaw.{boundary-quiet, digits-begin, front-text, places-found, places-read}}
-use Rattle.npm_words.{proofs.Grammar.Signs.{blank-cases, is_open, marks-all, open-first, sign-found, sign-taken}, specs.Internal.Words.ended_word}
-use Rattle.npm_words.specs.{Internal.Words.{places_front, signed_or}, RangeText.{formed, ignored, more}, Table.{Partial, Sign, table}}
+use Rattle.npm_words.proofs.Common.{behind_ignored, bind_some, capped_in, capped_partial, common_steps, cond_some, drop, drop_at, drop_spaces, false}
+use Rattle.npm_words.proofs.Common.{first_as, first_word, inl, inr, is_boundary, is_empty, is_lost, is_mark, is_short_word, length, length-append}
+use Rattle.npm_words.proofs.Common.{list_all, marked_word, marks_len, nat_tests, npm_sign, refl, same_Some, signed_word, space_len, subst, suc, sym}
+use Rattle.npm_words.proofs.Common.{take, take-append-drop, take_at, take_rest, true, word, words_within, zero, ℕ, ◌&&◌, ◌++◌, ◌-◌, ◌<◌, ◌>>?◌, ◌||◌}
+use Rattle.npm_words.proofs.{Common.{◌∙◌, ◌∷◌, ◌≡◌, ◌≤◌}, Grammar.{Ignored.{ignored-found, ignored-read}, PartialLaw.{boundary-quiet, digits-begin}}}
+use Rattle.npm_words.proofs.Grammar.{PartialLaw.{front-text, places-found, places-read}, Runs.{run-many, run-none}, Signs.{blank-cases, is_open}}
+use Rattle.npm_words.{proofs.Grammar.Signs.{marks-all, open-first, sign-found, sign-taken}, specs.Internal.Words.{ended_word, places_front}}
+use Rattle.npm_words.specs.{Internal.Words.signed_or, RangeText.{formed, ignored, more}, Table.{Partial, Sign, table}}
 use Rattle.semver_core.proofs.Reading.Boundaries.{boundary-of, boundary-utf8, skips-is, skips-of, skips-utf8, spaces-le, suffix-boundary}
 use Rattle.semver_core.proofs.Reading.{Bytes.{begins-on, begins-some, begins_component, is_component_byte}, Steps.option-cases}
 use Rattle.semver_core.specs.Text.Boundaries.{SkipsBlank}
@@ -22,8 +22,7 @@ pub places-begin : (loose : Bool) (x rest : List ℕ) (p : Partial) → IsPlaces
 places-begin loose x rest p h = grind (arith, nat_tests, common_steps, begins-on, is_component_byte, place-begins)
 
 pub marks-counted : (marks u : List ℕ) → list_all is_mark marks ≡ true → begins_component u ≡ true → marks_len (marks ++ u) ≡ length marks
-marks-counted [] u h k = grind (arith, nat_tests)
-marks-counted (b ∷ marks) u h k = grind (arith, nat_tests, common_steps, and_parts, marks-counted marks u)
+marks-counted marks u h k = let none = run-none is_mark u (grind (arith, nat_tests)) in omega (arith, run-many is_mark marks u h)
 
 -- the partial behind marks
 pub marks-dropped : (loose : Bool) (marks x : List ℕ) (p : Partial) → list_all is_mark marks ≡ true → IsPlaces loose x p
@@ -94,12 +93,7 @@ pub record WordAt (loose include : Bool) (text : List ℕ) (w : Signed) (rest : 
 none-first : (text : List ℕ) → text ≡ (npm_sign text).1 → begins_byte 61 text ≡ false
 unfolding npm_sign
 none-first [] h = refl
-none-first (b ∷ rest) h = elim (cases_Bool (b == 61)) [
-  | inr other ↦ other
-  | inl mark ↦
-      let same : 61 ∷ rest ≡ drop_spaces rest = rw (eqb-true b 61 mark) at h in
-      absurd (omega (arith, ap length same, spaces-le rest))
-]
+none-first (b ∷ rest) h = grind (arith, nat_tests, spaces-le rest)
 
 first-take : (n : ℕ) (text : List ℕ) → begins_byte 61 text ≡ false → begins_byte 61 (take n text) ≡ false
 first-take n text h = grind arith
@@ -126,8 +120,7 @@ signed-found loose include text w rest u h =
     let tests = and_parts (are_marks loose s.0 p.0.0 marks) (is_boundary p.0.1) t.0 in
     let part = places-found loose (drop n s.1) p.0.0 p.0.1 p.1 in
     let front = marks ++ part.piece in
-    let behind : s.1 ≡ front ++ p.0.1 =
-    sym (take-append-drop n s.1) ∙ ap (λ (t : List ℕ). marks ++ t) part.split ∙ sym (append_assoc marks part.piece p.0.1) in
+    let behind : s.1 ≡ front ++ p.0.1 = grind (arith, take-append-drop n s.1, append_assoc) in
     let front_is : whole_text ≡ front = ap (λ (t : List ℕ). take (length t - length p.0.1) t) behind ∙ front-text front p.0.1 in
     let all = at_sign.signs ++ front in
     let whole : text ≡ all ++ p.0.1 = at_sign.split ∙ ap (λ (t : List ℕ). at_sign.signs ++ t) behind ∙ sym (append_assoc at_sign.signs front p.0.1) in
@@ -203,8 +196,7 @@ first-found loose include text cs rest u some h = go (signed_word loose text) re
 words-step : (loose include : Bool) (n : ℕ) (text : List ℕ) → 0 < length text → words_within loose include (suc n) text
     ≡ (first_word loose include text >>? λ w. words_within loose include n w.1 >>? λ ds. Some (w.0 ∷ ds))
 unfolding words_within
-words-step loose include n [] some = absurd (omega (arith, some))
-words-step loose include n (b ∷ text) some = refl
+words-step loose include n text some = grind arith
 
 begins-longer : (loose include : Bool) (text rest : List ℕ) (cs : Option (List Comparison)) → IsUtf8 text → BeginsAs loose include text rest cs
     → 0 < length text
@@ -225,28 +217,24 @@ words-read loose include (suc n) text all u (more t rest cs ds h k) le =
 pub words-found : (loose include : Bool) (n : ℕ) (text : List ℕ) (all : List (Option (List Comparison))) → IsUtf8 text
     → words_within loose include n text ≡ Some all → AreWords loose include text all
 unfolding words_within
-words-found loose include n [] all u h = subst (λ (l : List (Option (List Comparison))). AreWords loose include [] l) (same_Some _ _ h) AreWords.none
+words-found loose include n [] all u h = rw (← same_Some _ _ h) AreWords.none
 words-found loose include zero (b ∷ text) all u h = cc h
 words-found loose include (suc n) (b ∷ text) all u h =
     let w = bind_some (first_word loose include (b ∷ text)) _ all h in
     let d = bind_some (words_within loose include n w.0.1) (λ ds. Some (w.0.0 ∷ ds)) all w.2 in
     let f = first-found loose include (b ∷ text) w.0.0 w.0.1 u (omega arith) w.1 in
-    subst (λ (l : List (Option (List Comparison))). AreWords loose include (b ∷ text) l) (same_Some _ _ d.2)
-    (more (b ∷ text) w.0.1 w.0.0 d.0 f.is (words-found loose include n w.0.1 d.0 f.utf8 d.1))
+    rw (← same_Some _ _ d.2) (more (b ∷ text) w.0.1 w.0.0 d.0 f.is (words-found loose include n w.0.1 d.0 f.utf8 d.1))
 
 -- the number only bounds the words
 pub words-enough : (loose include : Bool) (n m : ℕ) (text : List ℕ) → IsUtf8 text → length text ≤ n → length text ≤ m
     → words_within loose include n text ≡ words_within loose include m text
-words-enough loose include n m text u h k = elim (option-cases (words_within loose include n text)) [
-  | inr one ↦ one.1 ∙ sym (words-read loose include m text one.0 u (words-found loose include n text one.0 u one.1) k)
-  | inl e ↦ elim (option-cases (words_within loose include m text)) [
-    | inl f ↦ e ∙ sym f
-    | inr other ↦ cc (e, words-read loose include n text other.0 u (words-found loose include m text other.0 u other.1) h)
-  ]
-]
+words-enough loose include n m text u h k =
+    let as_many = λ (i j : ℕ) (le : length text ≤ j) (all : List (Option (List Comparison))) (e : words_within loose include i text ≡ Some all).
+    words-read loose include j text all u (words-found loose include i text all u e) le in
+    let one = option-cases (words_within loose include n text) in
+    let other = option-cases (words_within loose include m text) in
+    grind (arith, as_many n m k, as_many m n h)
 
 -- strictly no word is ignored
 pub strict-kept : (include : Bool) (text : List ℕ) (all : List (Option (List Comparison))) → AreWords false include text all → is_lost all ≡ false
-strict-kept include text all AreWords.none = refl
-strict-kept include text all (more t rest cs ds (formed partial behind es w short s) k) = grind (arith, nat_tests)
-strict-kept include text all (more t rest cs ds (ignored behind l some absent i s) k) = cc l
+strict-kept include text all h = grind (arith, nat_tests)

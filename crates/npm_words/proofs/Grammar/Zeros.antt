@@ -1,12 +1,12 @@
 -- How many numbers of a partial are written `0`: strictly as many as are 0, so that node-semver's table goes by the values of the numbers.
 use Rattle.npm_words.proofs.Common.{Bool, Comparison, Id, IsNumber, IsPlace, IsPlaces, IsStrictBuild, List, None, Numbers, Option, Some, VersionValue}
-use Rattle.npm_words.proofs.Common.{[], and_parts, ap, append-nil, arith, at_least, begins, bytes_eq, bytes_eq-Decides, cases_Bool, codes}
-use Rattle.npm_words.proofs.Common.{common_steps, compared, digits_grow, drop, false, first, from, has_leading_zero, if◌then◌else◌, inl, inr}
-use Rattle.npm_words.proofs.Common.{is_ascii_digit, is_release, length, list_all, major, nat_tests, not, partial_of, prefix_len, refl, subst, suc}
-use Rattle.npm_words.proofs.Common.{sym, take, take_at, take_rest, take_while, true, under, whole, wildcard, ℕ, ◌&&◌, ◌++◌, ◌+◌, ◌-◌, ◌==◌, ◌∙◌, ◌∷◌}
-use Rattle.npm_words.{proofs.Common.◌≡◌, specs.{Grammar.IsPreRelease, Internal.Parts.{AreZeros, is_padded}, Table.{Partial, Sign, caret, next}}}
-use Rattle.{npm_words.specs.Table.{table, tilde, unbuilt, written_zeros, zeros}, semver_core.proofs.Reading.Numbers.digits-taken}
-use Rattle.{semver_core.specs.Text.Comparators.equal, std.proofs.lemmas.{Bool.le-ltb, List.drop-drop}}
+use Rattle.npm_words.proofs.Common.{[], and_parts, ap, append-nil, arith, at_least, begins, bytes_eq, bytes_eq-Decides, codes, common_steps, compared}
+use Rattle.npm_words.proofs.Common.{digits_grow, drop, false, first, from, has_leading_zero, if◌then◌else◌, is_ascii_digit, is_release, length}
+use Rattle.npm_words.proofs.Common.{list_all, major, nat_tests, not, partial_of, prefix_len, refl, subst, sym, take, take_at, take_rest, take_while}
+use Rattle.npm_words.proofs.{Common.{true, under, whole, wildcard, ℕ, ◌&&◌, ◌++◌, ◌+◌, ◌-◌, ◌==◌, ◌∙◌, ◌∷◌, ◌≡◌}, Grammar.Runs.run-behind}
+use Rattle.npm_words.specs.{Grammar.IsPreRelease, Internal.Parts.{AreZeros, is_padded}, Table.{Partial, Sign, caret, next, table, tilde, unbuilt}}
+use Rattle.{npm_words.specs.Table.{written_zeros, zeros}, semver_core.{proofs.Reading.Numbers.digits-taken, specs.Text.Comparators.equal}}
+use Rattle.std.proofs.lemmas.{Bool.le-ltb, List.drop-drop}
 use Rattle.npm_words.specs.Partials as Text
 
 -- ---- the text
@@ -31,23 +31,15 @@ pub zeros_taken : (text numbers : List ℕ) (at : ℕ) → at ≡ prefix_len no_
     → written_zeros text ≡ counted (zero_at numbers) (zero_at (drop 2 numbers)) (zero_at (drop 2 (drop 2 numbers)))
 zeros_taken text numbers at e f = zeros_counted text numbers (f ∙ take_rest text at ∙ ap (λ n. drop n text) e)
 
-marks-dropped : (marks x : List ℕ) → list_all no_digit marks ≡ true → drop (prefix_len no_digit (marks ++ x)) (marks ++ x) ≡ drop (prefix_len no_digit x) x
-marks-dropped [] x h = refl
-marks-dropped (b ∷ marks) x h =
-    let p = and_parts (no_digit b) (list_all no_digit marks) h in
-    let more : 1 + prefix_len no_digit (marks ++ x) ≡ suc (prefix_len no_digit (marks ++ x)) = omega arith in
-    rw (p.0, more) (marks-dropped marks x p.1)
-
 -- marks in front do not count
 pub zeros-marked : (marks x : List ℕ) → list_all no_digit marks ≡ true → written_zeros (marks ++ x) ≡ written_zeros x
-zeros-marked marks x h = zeros_counted (marks ++ x) _ (sym (marks-dropped marks x h)) ∙ sym (zeros_counted x _ refl)
+zeros-marked marks x h = zeros_counted (marks ++ x) _ (sym (run-behind no_digit marks x h)) ∙ sym (zeros_counted x _ refl)
 
 -- ---- strictly zero is written `0`
 
 digits-zero : (digits : List ℕ) (n : ℕ) → IsNumber n digits n → has_leading_zero digits ≡ false → bytes_eq digits (codes "0") ≡ (n == 0)
 digits-zero [] n k h = absurd (omega (arith, k.some))
-digits-zero (c ∷ []) n k h = grind (arith, nat_tests, common_steps)
-digits-zero (c ∷ d ∷ digits) n k h = grind (arith, nat_tests, common_steps, and_parts, digits_grow)
+digits-zero (c ∷ digits) n k h = grind (arith, nat_tests, common_steps, and_parts, digits_grow)
 
 abbrev is_zero_place : Option ℕ → Bool
 is_zero_place a = elim a [ None ↦ false | Some n ↦ n == 0 ]
@@ -71,12 +63,7 @@ place-first x more n (Text.number digits m k spelled short) = grind (arith, nat_
 zeros-behind : (x rest : List ℕ) (n : ℕ) → IsPlace false x (Some n) → begins is_ascii_digit rest ≡ false
     → written_zeros (x ++ rest) ≡ counted (n == 0) (zero_at (drop 1 rest)) (zero_at (drop 3 rest))
 zeros-behind x rest n h stop =
-    zeros_counted (x ++ rest) (x ++ rest) (sym (place-first x rest n h)) ∙ elim (cases_Bool (n == 0)) [
-      | inr some ↦ rw (zero-place x rest (Some n) h stop, some) refl
-      | inl zero ↦
-          let e : x ≡ codes "0" = zero-alone x n h zero in
-          rw (zero-place x rest (Some n) h stop, zero, e, drop-drop 2 2 (48 ∷ rest)) refl
-    ]
+    grind (arith, zeros_counted (x ++ rest) (x ++ rest), place-first x rest n h, zero-place x rest (Some n) h stop, zero-alone x n h, drop-drop 2 2 (48 ∷ rest))
 
 zeros_of : Option ℕ → Option ℕ → Option ℕ → ℕ
 zeros_of a b c = counted (is_zero_place a) (is_zero_place b) (is_zero_place c)
@@ -87,15 +74,9 @@ zeros-dotted : (x y rest : List ℕ) (n : ℕ) (b c : Option ℕ) → IsPlace fa
     → written_zeros (x ++ (46 ∷ (y ++ rest))) ≡ zeros_of (Some n) b c
 unfolding zeros_of
 zeros-dotted x y rest n b c h k stop f =
-    zeros-behind x (46 ∷ (y ++ rest)) n h refl ∙ rw (zero-place y rest b k stop) (go b k f)
-  where
-    go : (b : Option ℕ) → IsPlace false y b → (is_zero_place b ≡ true → zero_at (drop 1 rest) ≡ is_zero_place c)
-        → counted (n == 0) (is_zero_place b) (zero_at (drop 2 (y ++ rest))) ≡ counted (n == 0) (is_zero_place b) (is_zero_place c)
-    go None k f = refl
-    go (Some m) k f = elim (cases_Bool (m == 0)) [
-      | inr some ↦ rw some refl
-      | inl zero ↦ (let e : y ≡ codes "0" = zero-alone y m k zero in rw (zero, e, f zero) refl)
-    ]
+    let first = zeros-behind x (46 ∷ (y ++ rest)) n h refl in
+    let second = zero-place y rest b k stop in
+    grind (arith, zero-alone y)
 
 zeros-partial : (n : ℕ) (b c : Option ℕ) (l m : List Id) → zeros_of (Some n) b c ≡ zeros (partial_of (Some n) b c l m)
 unfolding zeros_of
