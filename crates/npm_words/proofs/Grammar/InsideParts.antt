@@ -321,8 +321,11 @@ reads : (text rest : List ℕ) → IsInside text → (starts_place (text ++ rest
 reads text rest (version t v (written (c ∷ mark) x y z pre build w m i j k p b)) = cc m
 reads text rest (version t v (written [] x y z pre build w m i j k p b)) =
     let first = (number-placed x _ i).begin (46 ∷ (y ++ 46 ∷ (z ++ (pre ++ (build ++ rest))))) in
-    rw (three-append x y z pre build rest) (grind arith, partial-le false _ _
-    (three-max false false x y z pre build rest w.pre_release w.build (number-placed x _ i) (number-placed y _ j) (number-placed z _ k) p.1 p.0 b))
+    rw (three-append x y z pre build rest) (
+      grind arith,
+      partial-le false _ _
+          (three-max false false x y z pre build rest w.pre_release w.build (number-placed x _ i) (number-placed y _ j) (number-placed z _ k) p.1 p.0 b),
+    )
 reads text rest (partial t p (one x a h)) =
     let place = place-placed x a h in (place.begin rest, partial-le true _ _ (omega (arith, one-le (x ++ rest), place.max rest)))
 reads text rest (partial t p (two x y a b h k)) =
@@ -330,8 +333,11 @@ reads text rest (partial t p (two x y a b h k)) =
     rw (append_assoc x (46 ∷ y) rest) (place.begin (46 ∷ (y ++ rest)), partial-le true _ _ (two-max x y rest place (place-placed y b k)))
 reads text rest (partial t p (three x y z pre build a b c ids builds h k l m n g)) =
     let place = place-placed x a h in
-    rw (three-append x y z pre build rest) (place.begin (46 ∷ (y ++ 46 ∷ (z ++ (pre ++ (build ++ rest))))), partial-le true _ _
-    (three-max true (is_none c) x y z pre build rest ids builds place (place-placed y b k) (place-placed z c l) m (quiet m) n))
+    rw (three-append x y z pre build rest) (
+      place.begin (46 ∷ (y ++ 46 ∷ (z ++ (pre ++ (build ++ rest))))),
+      partial-le true _ _
+          (three-max true (is_none c) x y z pre build rest ids builds place (place-placed y b k) (place-placed z c l) m (quiet m) n),
+    )
   where
     quiet : {wild : Bool} {fits : List ℕ → Bool} {pre : List ℕ} {l : List Id} → IsPreRelease false wild fits pre l → begins is_ascii_digit pre ≡ false
     quiet h = grind (arith, nat_tests, common_steps)
