@@ -135,7 +135,7 @@ blank-begins blank rest h some = go h.characters h.each h.spelled
       character = c;
       rest = encode_utf8_all cs ++ rest;
       passes = first_so (is_whitespace c) (list_all is_whitespace cs) each;
-      spelled = ap (λ (t : List ℕ). t ++ rest) e ∙ append_assoc (encode_utf8 c) (encode_utf8_all cs) rest;
+      spelled = grind (arith, append_assoc);
     }
 
 module _ {limit : ℕ} {pre : Bool} where

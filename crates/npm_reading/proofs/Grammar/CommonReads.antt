@@ -179,11 +179,9 @@ module _ (text : List ℕ) where
     module _ (b : ℕ) (two : List ℕ) (k : Some (b, two) ≡ dotted_with false MAX_SAFE_INTEGER one) where
       pub short-two : (end : List ℕ) → IsLeft two end → Reads (minor a b) end
       unfolding places_front
-      short-two end (over, inl e) =
-          let second = number_place one b two k in rw (read-one.0, second.0, e, (no_place end over).1, read-one.1, second.2) refl
+      short-two end (over, inl e) = grind (arith, read-one, number_place one b two k, no_place end over)
       short-two end (over, inr (c, e, w)) =
-          let second = number_place one b two k in
-          rw (read-one.0, second.0, e, (wild_place c end w).1, over_qualified false (Some a) (Some b) None end over, read-one.1, second.2) refl
+          grind (arith, read-one, number_place one b two k, wild_place c end w, over_qualified false (Some a) (Some b) None end over)
 
       pub short-three : (c : ℕ) (end : List ℕ) → Some (c, end) ≡ dotted_with false MAX_SAFE_INTEGER two → is_over end ≡ true
           → Reads (whole (release_value a b c)) end
@@ -209,7 +207,7 @@ module _ (text : List ℕ) (include : Bool) (signed : List ℕ) (s : Sign) (sign
       let f = places-found false text p rest h in
       let cut = take (length text - length rest) text in
       let cut_is : cut ≡ f.piece = front-is text f.piece rest f.split in
-      let good = read (λ w. e ∙ zeros-capped p ∙ rw cut_is (strict-zeros f.piece p f.is (sym (wild-capped p) ∙ w))) in
+      let good = read (λ w. grind (arith, zeros-capped p, cut_is, strict-zeros f.piece p f.is, wild-capped p)) in
       let small = valid-within (λ p. table include s p cut) (λ p. table-invalid include s p cut) p good.0 in
       word-found text p rest (rw (h, small) refl) include signed s (bounds_view b) sign (rw (capped-same p small) at good)
 

@@ -10,11 +10,11 @@ use Rattle.npm_reading.{proofs.Grammar.WordLoop.{words-end, words-next, words-no
 use Rattle.npm_reading.specs.Internal.Reads.{AddsPart, AreAllFound, AreFound, IsFound, IsStep, first_valid, valid_alternative, valid_alternatives}
 use Rattle.npm_reading.specs.{Internal.Reads.{valid_range, words_of}, Ranges.IsRangeIn, Readings.{OfAccepted, ReadText}}
 use Rattle.{npm_reading.specs.declared.alternatives.Alternative.Alternative, npm_words.proofs.Common.{Comparison, Ended, HasAlternativesIn}}
-use Rattle.npm_words.proofs.Common.{IsNarrowed, alternative_of, alternatives_of, ap₂, capped_in, capped_partial, first_word, hyphen_ends, hyphen_of}
+use Rattle.npm_words.proofs.Common.{IsNarrowed, alternative_of, alternatives_of, capped_in, capped_partial, first_word, hyphen_ends, hyphen_of}
 use Rattle.npm_words.proofs.Common.{is_free_lower, is_free_upper, is_lost, is_right, is_short_word, is_valid, kept, lower_of}
 use Rattle.npm_words.proofs.{Common.{signed_front_view, signed_word, upper_of, valid_one, words_of_all}, Grammar.AlternativeLaw.alternatives_are}
 use Rattle.npm_words.proofs.Grammar.{Hyphens.{both_capped, hyphen-capped}, Printed.{capped-valid, table-invalid, valid-same}}
-use Rattle.npm_words.specs.{Alternatives.interval_in, Table.{Partial, table}, declared.words.Signed.Signed}
+use Rattle.npm_words.specs.{Table.{Partial, table}, declared.words.Signed.Signed}
 use Rattle.semver_core.{proofs.Dividing.BarsDivide.bars_once, specs.{Failures.{NoValue, RefusedOnlyIf}, Internal.Reading.◌>>?◌}}
 use Rattle.std.{proofs.lemmas.List.Elements.filter_map-append, specs.{List.cons_option, Prelude.is_none}}
 use Rattle.npm_words.specs.Internal.Words as Words
@@ -57,7 +57,7 @@ module _ (loose include : Bool) (a b : Ended) where
     pub upper-found : (all f : Alternative) (g : Option Alternative) → IsNarrowed include [] all.interval
         → NarrowedBy include all.interval (lower_of include a) (Some f) → NarrowedBy include f.interval (upper_of include b) g
         → IfSome g (λ g. g.is_lost ≡ false) → Between g
-    upper-found all f None first n m lost = rw (low, up, list_all-append (is_valid MAX_SAFE_INTEGER) (lower_of include a) (upper_of include b), n.0, m) tt
+    upper-found all f None first n m lost = grind (arith, nat_tests, list_all-append)
     upper-found all f (Some g) first n m lost =
         rw (low, up, list_all-append (is_valid MAX_SAFE_INTEGER) (lower_of include a) (upper_of include b), n.0, m.0) (m.1 (lower_of include a) (n.1 [] first), lost)
 
@@ -106,12 +106,9 @@ module _ (loose include : Bool) (text rest : List ℕ) (all : Alternative) (is_l
       → AreWordsTo loose include text s.0.interval s.0.is_bare s.1 s.2.now × (length s.2.now < length rest)
   word-next s some k =
       let w = step-found include all (first_valid loose include rest) s k in
-      let f = valid-found loose include rest w.0 h.utf8 some w.1 in (
-        subst (λ (b : Bool). AreWordsTo loose include text s.0.interval s.0.is_bare b s.2.now) (sym w.2.2)
-            (subst (λ (t : List ℕ). AreWordsTo loose include text s.0.interval s.0.is_bare (is_none w.0.0) t) (sym w.2.3)
-            (words-next loose include text rest all.interval all.is_bare is_last h w.0 s.0 some w.1 w.2.0 w.2.1)),
-        rw w.2.3 f.shorter,
-      )
+      let f = valid-found loose include rest w.0 h.utf8 some w.1 in
+      let next = words-next loose include text rest all.interval all.is_bare is_last h w.0 s.0 some w.1 w.2.0 w.2.1 in
+      (simp (w.2.2, w.2.3) next, rw w.2.3 f.shorter)
 
   pub words-all : (a : Alternative) (lost : Bool) → IsUtf8 text → is_empty rest ≡ true → a.interval ≡ all.interval → a.is_lost ≡ (all.is_bare && lost)
       → (is_last ≡ false → lost ≡ false) → (is_last ≡ true → lost ≡ is_none (signed_word loose text))
@@ -143,9 +140,7 @@ found-append : (include : Bool) (ls : List (List Comparison)) (cs : List Compari
     (before after : List (Span VersionValue)) → AreFound include ls before → IsNarrowed include cs o → after ≡ before ++ option_to_list o
     → AreFound include (ls ++ cs ∷ []) after
 found-append include ls cs o before after h k e = record {
-  are = e ∙ ap₂ (λ (x y : List (Span VersionValue)). x ++ y) h.are
-      (ap (λ m. option_to_list m) (narrowed-interval include cs o k) ∙ sym (cons-append (interval_in include cs) [] ∙ append-nil _))
-      ∙ sym (filter_map-append (interval_in include) ls (cs ∷ []));
+  are = grind (arith, nat_tests, e, h.are, narrowed-interval include cs o k, cons-append, append-nil, filter_map-append);
   spans = rw (e, list_all-append (is_range_span (MAX_SAFE_INTEGER + 1)) before (option_to_list o), h.spans, one-span include cs o k) refl;
 }
 
@@ -153,8 +148,7 @@ pub found-cons : (include : Bool) (ls : List (List Comparison)) (cs : List Compa
     (others : List (Span VersionValue)) → AreFound include ls others → IsNarrowed include cs o
     → AreFound include (cs ∷ ls) (option_to_list o ++ others)
 found-cons include ls cs o others h k = record {
-  are = ap₂ (λ (m : Option (Span VersionValue)) (l : List (Span VersionValue)). option_to_list m ++ l) (narrowed-interval include cs o k) h.are
-      ∙ sym (cons-append (interval_in include cs) _);
+  are = grind (arith, nat_tests, h.are, narrowed-interval include cs o k, cons-append);
   spans = rw (list_all-append (is_range_span (MAX_SAFE_INTEGER + 1)) (option_to_list o) others, h.spans, one-span include cs o k) refl;
 }
 
@@ -209,7 +203,7 @@ read-part loose include text was is found after rest part behind h e a = go _ re
     }
 
 -- the same of a call that rejects the part
-refused-weaker : {A E : Type 0} {P Q : Type 0} (r : Result A (Failure E)) → (P → Q) → RefusedOnlyIf r P → RefusedOnlyIf r Q
+pub refused-weaker : {A E : Type 0} {P Q : Type 0} (r : Result A (Failure E)) → (P → Q) → RefusedOnlyIf r P → RefusedOnlyIf r Q
 refused-weaker r f k = grind (arith, f)
 
 pub read-refused : (loose : Bool) {A E : Type 0} (r : Result A (Failure E)) (include : Bool) (text : List ℕ) (was : Bool)
@@ -218,15 +212,10 @@ pub read-refused : (loose : Bool) {A E : Type 0} (r : Result A (Failure E)) (inc
     → RefusedOnlyIf r (valid_range loose include text ≡ None)
 read-refused loose r include text was found rest part behind h e = refused-weaker r (λ k. rw (h.same, rest-step loose include rest part behind None e k) refl)
 
-all-read : (loose include is_some : Bool) (text : List ℕ) (found : List (Span VersionValue)) (h : AreReadTo loose include text is_some found None)
+pub all-read : (loose include is_some : Bool) (text : List ℕ) (found : List (Span VersionValue)) (h : AreReadTo loose include text is_some found None)
     → valid_range loose include text ≡ (if is_some then Some h.read else None)
 unfolding valid_alternatives
 all-read loose include is_some text found h = rw (h.same, append-nil h.read, h.some) refl
-
--- no part was an alternative
-pub read-nothing : (loose include : Bool) (text : List ℕ) (found : List (Span VersionValue)) → AreReadTo loose include text false found None
-    → valid_range loose include text ≡ None
-read-nothing loose include text found h = all-read loose include false text found h
 
 pub read-all : (loose include : Bool) (text : List ℕ) (found : List (Span VersionValue)) → AreReadTo loose include text true found None
     → AreAllFound include (valid_range loose include text) found
@@ -272,10 +261,6 @@ range-read loose include text found range u h a = go (valid_range loose include 
         → IsRangeIn loose MAX_SAFE_INTEGER include text range
     go None e k = absurd k
     go (Some all) e k = record { alternatives = all; has = has-read loose include text all u e; is = a ∙ ranged-found include all found k }
-
-pub refused-none : (loose : Bool) {A E : Type 0} (r : Result A (Failure E)) (include : Bool) (text : List ℕ) → IsUtf8 text
-    → RefusedOnlyIf r (valid_range loose include text ≡ None) → RefusedOnlyIf r (NoValue (HasAlternativesIn loose MAX_SAFE_INTEGER include text))
-refused-none loose r include text u = refused-weaker r (none-read loose include text u)
 
 pub memory-pieces : {A E : Type 0} (r : Result A (Failure E)) (text : List ℕ) → MemoryOnlyIf r (1 < length (parts text))
     → MemoryOnlyIf r ((pieces : List (List ℕ)) → IsCutAtBars text pieces → 1 < length pieces)

@@ -176,10 +176,8 @@ pub marked-read : (included strict : Bool) (mark : ℕ) (p more : List ℕ) (l :
 marked-read included strict mark p more l (unmarked rest h) = (rw h refl, nothing_spelled)
 marked-read included strict mark p more l (marked t rest inc all stop) =
     let is = parts strict (pieces t) (pieces-some t) all in
-    let r = are-read strict t rest is.1 is.2 stop in
-    let begins : begins_identifier_in strict (t ++ rest) ≡ true = rw r.1 is.0 in
-    let same : (mark == mark) ≡ true = grind (arith, nat_tests) in (
-      rw (inc, same, begins, r.0) (omega arith),
+    (
+      grind (arith, nat_tests, is, are-read strict t rest is.1 is.2 stop),
       written-spelled t (map identifier_of (pieces t)) (record { runs = plain-ids strict (pieces t) all; spelled = refl }),
     )
 

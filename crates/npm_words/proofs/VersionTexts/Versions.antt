@@ -1,7 +1,7 @@
 -- Version texts, strict or loose: the function that reads them finds exactly what the statement has.
 use Rattle.npm_words.proofs.Common.{AreMarks, Bool, IsClean, IsNumber, IsPieceAt, IsStrictBuild, IsStrictNumber, IsTrim, IsUtf8, IsVersionText}
 use Rattle.npm_words.proofs.Common.{IsWholeNumber, List, MAX_LENGTH, NoPieceAt, NoValue, None, Some, VersionValue, [], after_byte, and_parts, ap}
-use Rattle.npm_words.proofs.Common.{append-nil, arith, begins, begins_byte, bind_some, build_front, cases_Bool, chars, common_steps, drop, drop_at}
+use Rattle.npm_words.proofs.Common.{append-nil, arith, begins, begins_byte, bind_some, cond_some, build_front, cases_Bool, chars, common_steps, drop, drop_at}
 use Rattle.npm_words.proofs.Common.{encode_utf8_all, false, inl, inr, is_ascii_digit, is_empty, is_mark, length, list_all, middle_is_trim, nat_tests}
 use Rattle.npm_words.proofs.Common.{number_front, number_of, number_with, or_right, patch_front, pre_front, prefix_len, qualified_version, refl}
 use Rattle.npm_words.proofs.Common.{same_Some, subst, sym, take, take-append-drop, take_at, take_rest, true, whole_version, ℕ, ◌&&◌, ◌++◌, ◌-◌, ◌<◌}
@@ -100,14 +100,10 @@ whole-found loose limit text v u h =
     let pre = pre_front loose false c.0.1 in
     let split : text ≡ m.0 ++ (x.piece ++ 46 ∷ (y.piece ++ 46 ∷ (z.piece ++ c.0.1))) =
     cc (m.1, x.split, byte-is 46 a.0.1 s.0 s.1, y.split, byte-is 46 b.0.1 t.0 t.1, z.split) in
-    elim (cases_Bool (is_empty (build_front pre.1).1 && fits loose pre.0)) [
-      | inr other ↦ cc (rw other at c.2)
-      | inl whole ↦
-          let both = and_parts (is_empty (build_front pre.1).1) (fits loose pre.0) whole in
-          subst (λ (t : List ℕ). Version loose limit t v) (sym split) (subst (Version loose limit _) (same_Some _ _ (rw whole at c.2))
-          (ended-found _ _ loose (fits loose) m.0 x.piece y.piece z.piece c.0.1 _ _ _ pre m.2 x.is y.is z.is
-          (pre-found loose false (fits loose) c.0.1 both.1) both.0))
-    ]
+    let d = cond_some (is_empty (build_front pre.1).1 && fits loose pre.0) _ v c.2 in
+    let both = and_parts (is_empty (build_front pre.1).1) (fits loose pre.0) d.0 in
+    rw split (subst (Version loose limit _) d.1 (ended-found _ _ loose (fits loose) m.0 x.piece y.piece z.piece c.0.1 _ _ _ pre m.2 x.is y.is z.is
+    (pre-found loose false (fits loose) c.0.1 both.1) both.0))
 
 -- ---- what is written is read
 
