@@ -233,10 +233,6 @@ lost-valid loose include text cs h = grind (arith, and_parts)
 abbrev valid_lists : List (List Comparison) → Option (List (List Comparison))
 valid_lists ls = if list_all (list_all (is_valid MAX_SAFE_INTEGER)) ls then Some ls else None
 
-one-more-valid : (a : Bool × List Comparison) (o : Option (List (List Comparison))) → (a.0 ≡ true → list_all (is_valid MAX_SAFE_INTEGER) a.1 ≡ true)
-    → (valid_one a >>? λ a. (o >>? valid_lists) >>? λ rest. Some (kept a rest)) ≡ ((o >>? λ rest. Some (kept a rest)) >>? valid_lists)
-one-more-valid a o h = grind (arith, h)
-
 all-valid : (loose include : Bool) (texts : List (List ℕ)) → valid_alternatives loose include texts ≡ (alternatives_of loose include texts >>? valid_lists)
 unfolding valid_alternatives valid_alternative alternatives_of
 all-valid loose include [] = refl

@@ -1,6 +1,6 @@
 use Rattle.{nodejs_semver.proofs.Common.{arith, sym, ◌∙◌}, npm_reading.proofs.Grammar.RangeReads.{view-none, word-next, word-none}}
 use Rattle.npm_reading.proofs.Grammar.{RangeReads.words-all, WordLoop.words-begin}
-use Rattle.{npm_reading.specs.declared.alternatives.Alternative.Alternative}
+use Rattle.npm_reading.specs.declared.alternatives.Alternative.{Alternative}
 use Rattle.npm_words.proofs.Grammar.{Characters.empty-length, PartialLaw.front-some}
 use Rattle.npm_reading.proofs.ranges.words.Goals as goal
 
