@@ -199,6 +199,7 @@ fn whole_end(loose: bool, text: &[u8]) -> Option<End<'_>>
 
 /// The ends of the hyphen range that the text is. Numbers past the limit are
 /// `MAX_SAFE_INTEGER + 1`.
+#[tactic(auto, unfolding(crate::specs::Internal::Words::hyphen_ends))]
 pub fn hyphen_ends(loose: bool, text: &[u8]) -> Option<(End<'_>, End<'_>)>
     ensures { hyphen_view result ≡ (Spec.hyphen_ends loose text.now >>? λ e.
         Some (Spec.capped_in e.0, Spec.capped_in e.1)) }
@@ -230,6 +231,7 @@ pub fn is_upper_end(include: bool, text: &[u8]) -> bool
 }
 
 /// The texts where the ends would be of a text that has the form of a hyphen range.
+#[tactic(auto, unfolding(crate::specs::Internal::Ends::end_texts))]
 pub fn end_texts(text: &[u8]) -> Option<(&[u8], &[u8])>
     ensures { option_map pair_view result ≡ Ends.end_texts text.now }
 {

@@ -34,16 +34,12 @@ same_cons x y xs ys e = (cc e, cc e)
 abbrev fits_in : Bool → VersionValue → Word → Bool
 fits_in some v w = (some || not (is_written v w)) && (not some || is_far v w)
 
-fit_bits : (some n f : Bool) → ((some || not n) && (not some || f)) ≡ true → (n ≡ true → some ≡ true) × (some ≡ true → f ≡ true)
-fit_bits some n f h = (λ e. grind arith, λ e. grind arith)
-
 module _ (pre some : Bool) (v : VersionValue) (within : is_within MAX_SAFE_INTEGER v ≡ true) where
   word-beside : (text : List ℕ) (w : Word) (cs : List Comparison) (s : Span VersionValue) → IsPlainWord MAX_SAFE_INTEGER pre text w cs
       → table MAX_SAFE_INTEGER w ≡ Some s → list_all (is_valid MAX_SAFE_INTEGER) cs ≡ true → fits_in some v w ≡ true → Beside v some some s cs
   word-beside text w cs s h e k f =
-      let (written, far) = fit_bits some (is_written v w) (is_far v w) f in
       let row = subst (λ o. IfSome o (λ s. Beside v (is_written v w) (is_far v w) s cs)) e (word-row v pre text w cs within h k) in
-      record { same = row.same; named = λ n. written (row.named n); held = λ n. row.held (far n) }
+      record { same = row.same; named = λ n. grind (arith, row.named n); held = λ n. row.held (grind (arith, f, n)) }
 
   words-beside : {text : List ℕ} {ws : List Word} {cs : List Comparison} (s : Span VersionValue) (ss : List (Span VersionValue))
       → ArePlainWords MAX_SAFE_INTEGER pre text ws cs → map (table MAX_SAFE_INTEGER) ws ≡ map Some (s ∷ ss)
@@ -66,12 +62,7 @@ same-right w u v h = grind (arith, nat_tests, common_steps, and_parts, eqb-true)
 
 far-of : (v : VersionValue) (w : Word) (us : List Word) → list_all (is_apart w) us ≡ true → list_any (is_written v) us ≡ true → is_far v w ≡ true
 far-of v w [] h k = cc k
-far-of v w (u ∷ us) h k = elim (cases_Bool (is_written v u)) [
-  | inl e ↦
-      let (n, same) = and_parts (not (is_release (version_in u))) _ e in
-      rw (n, same-right (version_in w) (version_in u) v same) at (and_parts (is_apart w u) _ h).0
-  | inr e ↦ far-of v w us (and_parts (is_apart w u) _ h).1 (rw e at k)
-]
+far-of v w (u ∷ us) h k = grind (arith, nat_tests, and_parts, same-right (version_in w) (version_in u) v, far-of v w us)
 
 all-fit : (v : VersionValue) (ws : List Word) → list_all (λ w. list_all (is_apart w) ws) ws ≡ true
     → list_all (fits_in (list_any (is_written v) ws) v) ws ≡ true

@@ -1,11 +1,11 @@
 -- What a bound and comparators accept, the rows of both tables, sign by sign, and hyphen ranges.
 use Rattle.nodejs_semver.proofs.Common.{After, Before, Bool, Bound, Comparator, Front, Greater, Id, IfSome, List, MAX_SAFE_INTEGER, None, Numeric}
 use Rattle.nodejs_semver.proofs.Common.{Option, Ordering, Partial, Some, Span, Unbounded, VersionValue, Word, [], above, and-true, and_parts, ap, ap₂}
-use Rattle.nodejs_semver.proofs.Common.{arith, at_most, below, cases_Bool, codes, common_steps, eqb-true, equal, false, filter, first_so, holds}
-use Rattle.nodejs_semver.proofs.Common.{hyphen, inl, inr, interval, is_empty, is_interval, is_le, is_lt, is_past, is_release, is_some, lets_in}
-use Rattle.nodejs_semver.proofs.Common.{list_all, list_all-append, list_any, list_any-append, lower_cut, names, nat_tests, not, not-false, or_left}
-use Rattle.nodejs_semver.proofs.Common.{or_right, ordering_then, plain, pre_cmp, precedence, precedence_total, refl, same_triple, subst, suc, sym}
-use Rattle.nodejs_semver.proofs.Common.{table, tilde, true, upper_cut, version_of, zero, ℕ, ◌&&◌, ◌++◌, ◌+◌, ◌==◌, ◌||◌, ◌∙◌, ◌∷◌, ◌≡◌, ◌⊎◌}
+use Rattle.nodejs_semver.proofs.Common.{arith, at_most, below, cases_Bool, codes, common_steps, equal, false, filter, first_so, holds, hyphen, inl}
+use Rattle.nodejs_semver.proofs.Common.{inr, interval, is_empty, is_interval, is_le, is_lt, is_past, is_release, is_some, lets_in, list_all}
+use Rattle.nodejs_semver.proofs.Common.{list_all-append, list_any, list_any-append, lower_cut, names, nat_tests, not, not-false, or_left, or_right}
+use Rattle.nodejs_semver.proofs.Common.{ordering_then, plain, pre_cmp, precedence, precedence_total, refl, same_triple, subst, suc, sym, table, tilde}
+use Rattle.nodejs_semver.proofs.Common.{true, upper_cut, version_of, zero, ℕ, ◌&&◌, ◌++◌, ◌+◌, ◌==◌, ◌||◌, ◌∙◌, ◌∷◌, ◌≡◌, ◌⊎◌}
 use Rattle.npm_reading.specs.Alike.{IsPlainPartial, IsPlainWord, bare, is_blunt, is_plain, may_have, npm_partial, signed, tilde_greater, version_in}
 use Rattle.{npm_reading.specs.Alike.word_of, npm_words.proofs.Common.{Comparison, IsPlaces, Numbers, compared, counts, dotted_patch}}
 use Rattle.npm_words.proofs.Common.{dotted_place, from, hyphen_lower, hyphen_upper, is_valid, is_zero, meets, minor, patch_place, place_front}
@@ -85,9 +85,6 @@ not_zero M = grind (arith, nat_tests)
 
 -- ---- bits
 
-either_bits : (p q n m own : Bool) → ((p && n) ≡ true → own ≡ true) → ((q && m) ≡ true → own ≡ true) → ((p && q) && (n || m)) ≡ true → own ≡ true
-either_bits p q n m own f g h = grind arith
-
 open_bits : (r t u n m p q n' m' : Bool) → n ≡ false → true ≡ p → false ≡ n' → u ≡ q → m ≡ m' → (r ≡ true → t ≡ true)
     → ((u && m) ≡ true → t ≡ true) → ((t && u) && (r || (n || m))) ≡ ((p && q) && (r || (n' || m')))
 open_bits r t u n m p q n' m' a b c d e f g = grind arith
@@ -98,10 +95,6 @@ top_bits r far u s m f g = grind arith
 
 greater_bits : (t s : Ordering) → is_lt s ≡ false → is_lt (ordering_then t Greater) ≡ is_lt (ordering_then t s)
 greater_bits t s h = grind arith
-
--- a pre-release is named where one may be written
-named-pre : (pre r same : Bool) → (pre || r) ≡ true → (not r && same) ≡ true → pre ≡ true
-named-pre pre r same h n = grind arith
 
 interval-is : (s t : Span VersionValue) → interval precedence s ≡ Some t → (t ≡ s) × (is_interval precedence s ≡ true)
 interval-is s t e = grind arith
@@ -155,7 +148,7 @@ module _ (v : VersionValue) where
   -- what two ends name
   pub named-ends : (own : Bool) (cs ds : List Comparison) → ((passed cs && named_by cs) ≡ true → own ≡ true)
       → ((passed ds && named_by ds) ≡ true → own ≡ true) → (passed (cs ++ ds) && named_by (cs ++ ds)) ≡ true → own ≡ true
-  named-ends own cs ds f g n = either_bits (passed cs) (passed ds) (named_by cs) (named_by ds) own f g (rw (passed-both cs ds, named-both cs ds) at n)
+  named-ends own cs ds f g n = grind (arith, nat_tests, passed-both cs ds, named-both cs ds, f, g)
 
   exact-beside : {own far : Bool} (b u : Bound VersionValue) (cs ds : List Comparison) → Exact (from_lower b) (names b v) cs
       → Exact (to_upper u) (names u v) ds → ((from_lower b && names b v) ≡ true → own ≡ true) → ((to_upper u && names u v) ≡ true → own ≡ true)
@@ -183,15 +176,10 @@ module _ (v : VersionValue) where
 
   -- a version that is named by the least pre-release of three numbers is not below it
   under-named : (n : Numbers) → Ranges.names v (under n) ≡ true → satisfies v (under n) ≡ false
-  under-named n h =
-      let (a, bc) = and_parts (n.0 == v.major) ((n.1 == v.minor) && (n.2 == v.patch)) h in
-      let (b, c) = and_parts (n.1 == v.minor) (n.2 == v.patch) bc in
-      lt_is precedence_total v (lowest n)
-      ∙ ap not (upto_patch (lowest n) v (omega (arith, eqb-true _ _ a)) (omega (arith, eqb-true _ _ b)) (omega (arith, eqb-true _ _ c))
-      (zero_least v.pre_release))
+  under-named n h = grind (arith, nat_tests, and_parts, lt_is precedence_total v (lowest n), upto_patch (lowest n) v, zero_least v.pre_release)
 
   under-free : (n : Numbers) → (to_upper (Before (lowest n)) && names (Before (lowest n)) v) ≡ true → ⊥
-  under-free n h = let (a, b) = and_parts (to_upper (Before (lowest n))) (names (Before (lowest n)) v) h in cc (a, upper-before (lowest n), under-named n b)
+  under-free n h = grind (arith, nat_tests, upper-before (lowest n), under-named n)
 
   -- a release, or a version of other numbers, is below a release exactly if it is below its least pre-release
   below-lt : (n : Numbers) → (is_release v || not (same_triple (release n) v)) ≡ true → is_lt (precedence v (release n)) ≡ is_lt (precedence v (lowest n))
@@ -200,8 +188,7 @@ module _ (v : VersionValue) where
   -- a version up to the release w is below n, where their numbers say so
   most : (w n : Numbers) → is_le (triple_cmp v (release w)) ≡ is_lt (ordering_then (triple_cmp v (lowest n)) Greater)
       → to_upper (After (release w)) ≡ passed (under n ∷ [])
-  most w n h = upper-after (release w) ∙ ap is_le (in_two_steps v (release w)) ∙ upto_bits _ v.pre_release ∙ h
-      ∙ greater_bits _ (pre_cmp v.pre_release (Numeric 0 ∷ [])) least ∙ sym (ap is_lt (in_two_steps v (lowest n))) ∙ sym (and-true _)
+  most w n h = grind (arith, upper-after (release w), in_two_steps v (release w), upto_bits, greater_bits, least, in_two_steps v (lowest n))
     where
       upto_bits : (t : Ordering) (l : List Id) → is_le (ordering_then t (pre_cmp l [])) ≡ is_le t
       upto_bits t [] = grind arith
@@ -414,7 +401,7 @@ module _ (v : VersionValue) where
         → interval precedence (record { lower = Before (version_of p); upper = u }) ≡ Some s → Beside pre false s (cs ++ ds)
     up-to u ds e g h =
         let (same, i) = interval-is _ s h in
-        subst (λ t. Beside pre false t (cs ++ ds)) (sym same) (low-beside (version_of p) u cs ds low e (g i) (λ k. cc k) (named-pre pre _ _ r))
+        rw same (low-beside (version_of p) u cs ds low e (g i) (λ k. cc k) (λ k. grind (arith, r, k)))
 
     hyphen-form : (q : Partial) (text : List ℕ) → Form pre q → is_some q.major ≡ true → table MAX_SAFE_INTEGER (hyphen p q) ≡ Some s
         → Beside pre false s (cs ++ hyphen_upper at_most false (npm_partial q) text)

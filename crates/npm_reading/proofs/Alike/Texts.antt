@@ -6,7 +6,7 @@ use Rattle.nodejs_semver.proofs.Common.{common_steps, drop_spaces, drop_spaces-n
 use Rattle.nodejs_semver.proofs.Common.{first_so, flat_map, hyphen, if◌then◌else◌, inl, inr, is_boundary, is_empty, is_release, is_whitespace, length}
 use Rattle.nodejs_semver.proofs.Common.{length-append, list_all, list_any, map, middle_is_trim, nat_tests, not, or_right, part_bounds, part_denotes}
 use Rattle.nodejs_semver.proofs.Common.{precedence, refl, space_len-nil, subst, sym, table, trim, true, version_of, ℕ, ◌&&◌, ◌++◌, ◌<◌, ◌==◌, ◌∙◌}
-use Rattle.nodejs_semver.{proofs.{Common.{◌∷◌, ◌≡◌, ◌⊎◌}, Dividing.RunsDivide.runs_are}, specs.{Ranges.View.any_version, Text.Runs.fits}}
+use Rattle.nodejs_semver.{proofs.{Common.{◌∷◌, ◌≡◌, ◌⊎◌}, Dividing.RunsDivide.runs_are}, specs.Text.Runs.fits}
 use Rattle.{nodejs_semver.specs.Text.Runs.interval_of, npm_reading.proofs.Alike.{Beside.words-good, Rows.{Beside, between-good, named_by, passed}}}
 use Rattle.npm_reading.proofs.Alike.Words.{begins-word, filled, hyphen-read, is_word_byte, no-dash, partial-begins, word-dark, word-solid}
 use Rattle.npm_reading.{proofs.{Alike.Words.{words-begin, words-read}, Grammar.Intervals.range_accepts}, specs.Alike.{ArePlain, ArePlainWords}}
@@ -30,9 +30,8 @@ use Rattle.semver_core.specs.Text.Characters as Characters
 
 some-mapped : {A B : Type 0} (f : A → Option B) (xs : List A) (ys : List B) → map f xs ≡ map Some ys → filter_map f xs ≡ ys
 some-mapped f [] [] e = refl
-some-mapped f [] (y ∷ ys) e = cc e
-some-mapped f (x ∷ xs) [] e = cc e
 some-mapped f (x ∷ xs) (y ∷ ys) e = grind (arith, some-mapped f xs ys)
+some-mapped f xs ys e = cc e
 
 -- the words of an alternative are one run
 run-denotes : (limit : ℕ) (text : List ℕ) (r : Run VersionValue) → begins is_word_byte text ≡ true → part_bounds limit text ≡ r.first ∷ r.others
@@ -81,14 +80,9 @@ plain-means text list all u h = (meaning.one_meaning MAX_SAFE_INTEGER text list 
 
 pub plain-read : (text : List ℕ) (list : List (Span VersionValue)) (all : List (List Comparison)) → IsUtf8 text
     → IsPlainText MAX_SAFE_INTEGER text list all → Means MAX_SAFE_INTEGER text list × (0 < length list)
-plain-read text list all u h = (
-  plain-means text list all u h,
-  rw h.list_is (either (list_all is_empty h.texts)
-      (some-all MAX_SAFE_INTEGER h.pre h.texts h.spans all h.each (some-pieces text h.pieces h.texts h.cut h.trimmed)).0),
-)
-  where
-    either : (blank : Bool) → 0 < length h.spans → 0 < length (if blank then any_version else h.spans)
-    either blank e = grind arith
+plain-read text list all u h =
+    let some = some-all MAX_SAFE_INTEGER h.pre h.texts h.spans all h.each (some-pieces text h.pieces h.texts h.cut h.trimmed) in
+    (plain-means text list all u h, grind (arith, h.list_is, some.0))
 
 -- ---- to node-semver
 
@@ -141,7 +135,7 @@ blank-begins blank rest h some = go h.characters h.each h.spelled
       character = c;
       rest = encode_utf8_all cs ++ rest;
       passes = first_so (is_whitespace c) (list_all is_whitespace cs) each;
-      spelled = ap (λ (t : List ℕ). t ++ rest) e ∙ append_assoc (encode_utf8 c) (encode_utf8_all cs) rest;
+      spelled = grind (arith, append_assoc);
     }
 
 module _ {limit : ℕ} {pre : Bool} where
@@ -268,8 +262,7 @@ each-released : (v : VersionValue) (texts : List (List ℕ)) (list : List (Span 
     → list_all (list_all (is_valid MAX_SAFE_INTEGER)) all ≡ true → is_release v ≡ false → list_any (alternative_accepts v) all ≡ false
 each-released v texts list all w none k r = refl
 each-released v texts list all w (next text rest s cs ss others h more) k r =
-    let (kc, ks) = and_parts (list_all (is_valid MAX_SAFE_INTEGER) cs) _ k in
-    rw (released-part v s cs (part-same false v text s cs w h kc) r) (each-released v rest ss others w more ks r)
+    grind (arith, and_parts, released-part v s cs, part-same false v text s cs w h, each-released v rest ss others w more)
 
 abbrev is_bare : List Comparison → Bool
 is_bare cs = not (list_any (counts false) cs)
@@ -282,22 +275,21 @@ none-counted (c ∷ cs) h = grind (arith, nat_tests, common_steps, none-counted 
 empty-bare : (limit : ℕ) (pre : Bool) (texts : List (List ℕ)) (list : List (Span VersionValue)) (all : List (List Comparison))
     → ArePlain limit pre texts list all → list_all is_empty texts ≡ true → 0 < length texts → list_any is_bare all ≡ true
 empty-bare limit pre texts list all none e some = absurd (omega (arith, some))
-empty-bare limit pre texts list all (next text rest s cs ss others h more) e some = rw ((part-denotes h).1 (and_parts (is_empty text) _ e).0) refl
+empty-bare limit pre texts list all (next text rest s cs ss others h more) e some = grind (arith, and_parts, part-denotes h)
 
 pub plain-same : (text : List ℕ) (list : List (Span VersionValue)) (all : List (List Comparison)) (v : VersionValue)
     → IsPlainText MAX_SAFE_INTEGER text list all → is_within MAX_SAFE_INTEGER v ≡ true
     → accepts list v false ≡ Ranges.accepts false all v
 plain-same text list all v h w = rw h.list_is (elim (cases_Bool (list_all is_empty h.texts)) [
-  | inl e ↦ rw (e, empty-bare MAX_SAFE_INTEGER h.pre h.texts h.spans all h.each e (some-pieces text h.pieces h.texts h.cut h.trimmed)) (any-accepts v)
+  | inl e ↦
+      let bare = empty-bare MAX_SAFE_INTEGER h.pre h.texts h.spans all h.each e (some-pieces text h.pieces h.texts h.cut h.trimmed) in
+      rw (e, bare) (grind (arith, nat_tests, common_steps))
   | inr e ↦ rw e (elim (cases_Bool (list_any is_bare all)) [
     | inr e ↦ rw e same
     | inl e ↦ rw e (same ∙ opened e)
   ])
 ])
   where
-    any-accepts : (v : VersionValue) → accepts any_version v false ≡ is_release v
-    any-accepts v = grind (arith, nat_tests, common_steps)
-
     same : accepts h.spans v false ≡ list_any (alternative_accepts v) all
     same = each-same h.pre v h.texts h.spans all w h.each h.valid
 
@@ -306,7 +298,7 @@ plain-same text list all v h w = rw h.list_is (elim (cases_Bool (list_all is_emp
       | inl r ↦ any_weaker is_bare (alternative_accepts v) (λ cs h. rw (none-counted cs h, r) refl) all e ∙ sym r
       | inr r ↦
           let none : h.pre ≡ false = grind (arith, e, h.counted) in
-          each-released v h.texts h.spans all w (subst (λ b. ArePlain MAX_SAFE_INTEGER b h.texts h.spans all) none h.each) h.valid r ∙ sym r
+          each-released v h.texts h.spans all w (rw (sym none) h.each) h.valid r ∙ sym r
     ]
 
 -- ---- ranges of the text

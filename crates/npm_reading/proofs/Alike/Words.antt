@@ -1,8 +1,8 @@
 -- The words of plain alternatives, as the range grammar here reads them.
 use Rattle.nodejs_semver.proofs.Common.{Bool, Comparator, IsBlank, IsSign, List, None, Partial, Some, Word, [], above, after_spaces, ap, append-nil}
-use Rattle.nodejs_semver.proofs.Common.{append_assoc, arith, at_most, begins, below, cases_Bool, codes, drop_spaces, drop_spaces-none, eqb-true}
-use Rattle.nodejs_semver.proofs.Common.{equal, false, hyphen, inl, inr, is_boundary, is_empty, is_sign, length, list_len, lt-ltb, nat_tests}
-use Rattle.nodejs_semver.proofs.Common.{partial_front, refl, space_len, tilde_sign, true, word_at, words, words_within, ℕ, ◌++◌, ◌<◌, ◌==◌, ◌||◌, ◌∙◌}
+use Rattle.nodejs_semver.proofs.Common.{append_assoc, arith, at_most, begins, below, codes, drop_spaces, drop_spaces-none, eqb-true, equal, false}
+use Rattle.nodejs_semver.proofs.Common.{hyphen, inl, inr, is_boundary, is_empty, is_sign, length, list_len, lt-ltb, nat_tests, partial_front, refl}
+use Rattle.nodejs_semver.proofs.Common.{space_len, tilde_sign, true, word_at, words, words_within, ℕ, ◌++◌, ◌<◌, ◌==◌, ◌||◌, ◌∙◌}
 use Rattle.nodejs_semver.proofs.{Common.{◌∷◌, ◌≡◌}, Reading.{PartialLaw.{components-begin, front-exact, words-step}, WordLaw.compared-of}}
 use Rattle.nodejs_semver.{proofs.Reading.WordLaw.unsigned-at, specs.{Internal.Words.upper_behind, Text.WordText.{above_sign, at_least_sign}}}
 use Rattle.{nodejs_semver.specs.Text.WordText.{at_most_sign, below_sign, equal_sign}, npm_reading.specs.Alike.{ArePlainWords, IsPlainPartial}}
@@ -10,7 +10,7 @@ use Rattle.{npm_reading.specs.Alike.{IsPlainWord, bare, more_words, one_word, si
 use Rattle.npm_words.proofs.{Common.spelling, Grammar.{Signs.blank-skipped, Words.{blank-boundary, blank-space}}}
 use Rattle.semver_core.proofs.Reading.{Boundaries.front-dark, Bytes.{Stop, begins-on, begins-some, begins_component, component-solid}}
 use Rattle.semver_core.{proofs.Reading.Bytes.{is_component_byte, is_solid, solid-dark, stop-nil}, specs.Internal.Fronts.{after_byte, dotted_front}}
-use Rattle.{semver_core.specs.{Internal.Fronts.drop_v, Text.Comparators.at_least}, std.proofs.lemmas.Bool.false_from_ne_true}
+use Rattle.{semver_core.specs.Text.Comparators.at_least, std.proofs.lemmas.Bool.false_from_ne_true}
 use Rattle.npm_words.specs.Table as Npm
 
 -- what stands behind a word: the end, or whitespace and another word
@@ -32,13 +32,7 @@ is_word_byte b = is_component_byte b || (b == 118 || (is_sign b || (b == 94 || b
 
 pub word-solid : (text : List ℕ) → begins is_word_byte text ≡ true → begins is_solid text ≡ true
 word-solid [] h = h
-word-solid (b ∷ rest) h = elim (cases_Bool (is_component_byte b)) [
-  | inl e ↦ component-solid (b ∷ rest) e
-  | inr e ↦ signed-solid (rw e at h)
-]
-  where
-    signed-solid : (b == 118 || (is_sign b || (b == 94 || b == 126))) ≡ true → is_solid b ≡ true
-    signed-solid k = grind (arith, nat_tests)
+word-solid (b ∷ rest) h = grind (arith, nat_tests, component-solid (b ∷ rest))
 
 pub word-dark : (text : List ℕ) → begins is_word_byte text ≡ true → space_len text ≡ 0
 word-dark text h = solid-dark text (word-solid text h)
@@ -76,10 +70,7 @@ no-greater text h = grind arith
 
 marked-read : (limit : ℕ) (text : List ℕ) → begins_component text ≡ true → partial_front limit (118 ∷ text) ≡ partial_front limit text
 unfolding partial_front
-marked-read limit text h = let dark = drop_spaces-none text (front-dark text h) in rw (unmarked text h, dark) refl
-  where
-    unmarked : (text : List ℕ) → begins_component text ≡ true → drop_v text ≡ text
-    unmarked text h = grind (arith, nat_tests)
+marked-read limit text h = grind (arith, nat_tests, drop_spaces-none text (front-dark text h))
 
 module _ (limit : ℕ) (pre : Bool) (x : List ℕ) (p : Partial) (h : IsPlainPartial limit pre x p) where
   opened : begins_component h.rest ≡ true
@@ -151,9 +142,9 @@ module _ {limit : ℕ} {pre : Bool} where
   words-read (one_word t w c h) = words-from limit t [] w (word-begins h) (rw append-nil at (word-read limit pre t [] w c h (ends-nil limit)))
   words-read (more_words t b rest w us c d h k some more) =
       let opens = words-begin more in
-      words-from limit (t ++ (b ++ rest)) (b ++ rest) w (begins-on is_word_byte t (b ++ rest) (word-begins h))
-      (word-read limit pre t (b ++ rest) w c h (ends-blank limit b rest k some opens))
-      ∙ ap (λ (t : List ℕ). w ∷ words limit t) (blank-skipped b rest k (word-dark rest opens)) ∙ ap (λ (l : List Word). w ∷ l) (words-read more)
+      let read = word-read limit pre t (b ++ rest) w c h (ends-blank limit b rest k some opens) in
+      let first = words-from limit (t ++ (b ++ rest)) (b ++ rest) w (begins-on is_word_byte t (b ++ rest) (word-begins h)) read in
+      grind (arith, first, blank-skipped b rest k (word-dark rest opens), words-read more)
 
 -- ---- hyphen ranges
 

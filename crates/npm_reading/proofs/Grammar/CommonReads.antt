@@ -1,15 +1,15 @@
 -- Common texts: what the reader of these finds are alternatives of the text, and what their comparators have in common.
 use Rattle.nodejs_semver.proofs.Common.{AllByRecursion, Bool, Front, IfSome, IsBlank, IsRange, IsTrim, IsUtf8, List, MAX_SAFE_INTEGER, None, Option}
 use Rattle.nodejs_semver.proofs.Common.{Some, Span, Unbounded, VersionValue, [], all_weaker, ap, append-nil, append_assoc, arith, begins, bind_some}
-use Rattle.nodejs_semver.proofs.Common.{common_steps, cond_some, cut_bars, drop, encode_utf8, false, inl, inr, interval, is_empty, length}
-use Rattle.nodejs_semver.proofs.Common.{length-append, list_all, list_all-append, nat_tests, option_to_list, precedence, refl, release_value, subst}
+use Rattle.nodejs_semver.proofs.Common.{common_steps, cut_bars, drop, encode_utf8, false, inl, inr, interval, is_empty, length, length-append}
+use Rattle.nodejs_semver.proofs.Common.{list_all, list_all-append, nat_tests, option_to_list, precedence, refl, release_value, subst}
 use Rattle.nodejs_semver.proofs.{Common.{sym, take, trim, trim_is_middle, true, ℕ, ◌++◌, ◌-◌, ◌<◌, ◌∙◌, ◌∷◌, ◌≡◌, ◌≤◌, ◌⊎◌}, Everyday.Parts.HasBars}
 use Rattle.nodejs_semver.proofs.Everyday.{Parts.{bars-sound, behind-bars}, Texts.{compact-trim, cut-first, cut-last}, Words.{Compact, compact-spaced}}
 use Rattle.{nodejs_semver.{proofs.Everyday.Words.is_part_byte, specs.Text.Common.IsGap}, npm_reading.proofs.Grammar.Intervals.ranged-found}
 use Rattle.npm_reading.{proofs.Grammar.RangeReads.{found-cons, ranged_range}, specs.Internal.{Alternatives.ranged, Fronts.{AreIn, AreJoined}}}
 use Rattle.npm_reading.specs.Internal.{Fronts.{AreParts, IsLeft, IsPartAt, IsSignAt, IsTried, IsWordAt, is_word_byte}, Reads.AreFound}
 use Rattle.{npm_reading.specs.Ranges.IsRangeIn, npm_words.proofs.Common.{AreAlternatives, AreRead, AreWords, BeginsWord, Comparison, IsPlaces}}
-use Rattle.npm_words.proofs.Common.{IsSignText, IsWord, are_marks, are_normal, capped_partial, comparators_of, dotted_patch, dotted_place, first_as}
+use Rattle.npm_words.proofs.Common.{IsSignText, IsWord, are_normal, capped_partial, comparators_of, dotted_patch, dotted_place, first_as}
 use Rattle.npm_words.proofs.{Common.{is_lost, is_valid, limited, no_sign, patch_place, place_front, spelling, within}, Grammar.Characters.is_part}
 use Rattle.npm_words.proofs.Grammar.{Characters.partial-part, Hyphens.{front-is, front-normal, hyphen_none-strict, normal-capped, places-normal}}
 use Rattle.npm_words.proofs.Grammar.{Ignored.no-blank, PartialLaw.{front-as, front-text, number-read, over_qualified, places-found, wildcard_read}}
@@ -66,7 +66,7 @@ part-of_two : (include : Bool) (text rest behind last : List ℕ) (s t : Span Ve
     → rest ≡ 32 ∷ behind → IsWordAt include behind t last → s.upper ≡ Unbounded → t.lower ≡ Unbounded
     → IsPartAt include text (record { lower = s.lower; upper = t.upper }) last
 part-of_two include text rest behind last s t v e w open_above open_below =
-    let split = v.split ∙ ap (λ (t : List ℕ). v.word ++ t) (e ∙ ap (λ (t : List ℕ). 32 ∷ t) w.split) ∙ sym (append_assoc v.word (32 ∷ w.word) last) in
+    let split : text ≡ (v.word ++ 32 ∷ w.word) ++ last = rw append_assoc (cc (v.split, e, w.split)) in
     part-of include text last (v.word ++ 32 ∷ w.word) (Some v.comparators ∷ (Some w.comparators ∷ [])) _ split
     (spaced-word include v.word v.partial w.word v.comparators (Some w.comparators ∷ []) v.is w.some w.bytes
     (last-word include w.word w.partial w.comparators w.is))
@@ -81,12 +81,8 @@ sign-at : (text rest : List ℕ) (s : Sign) → IsSignAt text s rest
 sign-at text rest s (inl e) = (spelling s, e, rw append-nil at (Npm.sign s [] blank-nil), grind (arith, nat_tests))
 sign-at text rest s (inr e) = ([], e.0, rw e.1 no_sign, refl)
 
-no_marks : (s : Sign) (p : Partial) → are_marks false s p [] ≡ true
-no_marks s p = grind (arith, nat_tests, common_steps)
-
 limited-is : (o : Front Partial) (x : Partial × List ℕ) → Some x ≡ limited o → (o ≡ Some x) × (within (first x.0) ≡ true)
-limited-is None x h = cc h
-limited-is (Some p) x h = let t = cond_some (within (first p.0)) p x (sym h) in (ap (λ (q : Partial × List ℕ). Some q) t.1, rw t.1 at t.0)
+limited-is o x h = grind arith
 
 module _ (text : List ℕ) (p : Partial) (rest : List ℕ) (h : Some (p, rest) ≡ limited (places_front false text)) where
   -- the partial that is read at the front, and its text, as it is cut out
@@ -109,7 +105,7 @@ module _ (text : List ℕ) (p : Partial) (rest : List ℕ) (h : Some (p, rest) �
         comparators = table include s p f.piece;
         split = g.1 ∙ ap (λ (t : List ℕ). g.0 ++ t) f.split ∙ sym (append_assoc g.0 f.piece rest);
         partial = f.piece;
-        is = Npm.word g.0 [] f.piece s p g.2 (no_marks s p) (grind arith) f.is;
+        is = Npm.word g.0 [] f.piece s p g.2 (grind (arith, nat_tests, common_steps)) (grind arith) f.is;
         some = omega (arith, length-append g.0 f.piece, places-some false f.piece p f.is);
         bytes = all-join is_word_byte g.0 f.piece g.3
             (all_weaker is_part is_word_byte (λ b k. grind (arith, nat_tests)) f.piece (partial-part false f.piece p f.is));
@@ -170,7 +166,7 @@ module _ (text : List ℕ) where
 
   pub short-any : (end : List ℕ) → begins_wildcard text ≡ true → end ≡ drop 1 text → is_over end ≡ true → Reads wildcard end
   unfolding places_front
-  short-any end h e over = rw (wildcard_read false text h, sym e, (no_place end over).0) refl
+  short-any end h e over = grind (arith, wildcard_read false text h, no_place end over)
 
   module _ (a : ℕ) (one : List ℕ) (h : Some (a, one) ≡ number_with false MAX_SAFE_INTEGER text) where
     read-one : (place_front false text ≡ Some (Some a, one)) × (nat_le a MAX_SAFE_INTEGER ≡ true)
@@ -178,25 +174,20 @@ module _ (text : List ℕ) where
 
     pub short-one : (end : List ℕ) → IsLeft one end → Reads (major a) end
     unfolding places_front
-    short-one end (over, inl e) = rw (read-one.0, e, (no_place end over).0, read-one.1) refl
-    short-one end (over, inr (b, e, w)) = rw (read-one.0, e, (wild_place b end w).0, (no_place end over).1, read-one.1) refl
+    short-one end left = grind (arith, read-one, no_place end left.0, wild_place)
 
     module _ (b : ℕ) (two : List ℕ) (k : Some (b, two) ≡ dotted_with false MAX_SAFE_INTEGER one) where
       pub short-two : (end : List ℕ) → IsLeft two end → Reads (minor a b) end
       unfolding places_front
-      short-two end (over, inl e) =
-          let second = number_place one b two k in rw (read-one.0, second.0, e, (no_place end over).1, read-one.1, second.2) refl
+      short-two end (over, inl e) = grind (arith, read-one, number_place one b two k, no_place end over)
       short-two end (over, inr (c, e, w)) =
-          let second = number_place one b two k in
-          rw (read-one.0, second.0, e, (wild_place c end w).1, over_qualified false (Some a) (Some b) None end over, read-one.1, second.2) refl
+          grind (arith, read-one, number_place one b two k, wild_place c end w, over_qualified false (Some a) (Some b) None end over)
 
       pub short-three : (c : ℕ) (end : List ℕ) → Some (c, end) ≡ dotted_with false MAX_SAFE_INTEGER two → is_over end ≡ true
           → Reads (whole (release_value a b c)) end
       unfolding places_front listed
       short-three c end l over =
-          let second = number_place one b two k in
-          let third = number_place two c end l in
-          rw (read-one.0, second.0, third.1, over_qualified false (Some a) (Some b) (Some c) end over, read-one.1, second.2, third.2) refl
+          grind (arith, read-one, number_place one b two k, number_place two c end l, over_qualified false (Some a) (Some b) (Some c) end over)
 
 -- ---- a word of any partial, which the code has with the limit + 1 in the place of greater numbers
 
@@ -216,7 +207,7 @@ module _ (text : List ℕ) (include : Bool) (signed : List ℕ) (s : Sign) (sign
       let f = places-found false text p rest h in
       let cut = take (length text - length rest) text in
       let cut_is : cut ≡ f.piece = front-is text f.piece rest f.split in
-      let good = read (λ w. e ∙ zeros-capped p ∙ rw cut_is (strict-zeros f.piece p f.is (sym (wild-capped p) ∙ w))) in
+      let good = read (λ w. grind (arith, zeros-capped p, cut_is, strict-zeros f.piece p f.is, wild-capped p)) in
       let small = valid-within (λ p. table include s p cut) (λ p. table-invalid include s p cut) p good.0 in
       word-found text p rest (rw (h, small) refl) include signed s (bounds_view b) sign (rw (capped-same p small) at good)
 
@@ -225,9 +216,7 @@ module _ (text : List ℕ) (include : Bool) (signed : List ℕ) (s : Sign) (sign
       let v = front-as capped_partial (places_front false text) (p, rest) h in subst Read (sym v.2) (past-read v.0.0 v.0.1 v.1)
 
 pub capped-normal : (text : List ℕ) (p : Partial) (rest : List ℕ) → Some (p, rest) ≡ first_as capped_partial (places_front false text) → are_normal p ≡ true
-capped-normal text p rest h =
-    let v = front-as capped_partial (places_front false text) (p, rest) h in
-    ap (λ (x : Partial × List ℕ). are_normal x.0) v.2 ∙ normal-capped v.0.0 ∙ front-normal false text v.0 v.1
+capped-normal text p rest h = grind (arith, normal-capped, front-normal)
 
 pub ruleset short_fronts = (short-one, short-two, short-three)
 
@@ -250,7 +239,7 @@ bars-there : (include : Bool) (rest behind next : List ℕ) (s : Span VersionVal
     → HasBars rest × (length next < length rest)
 bars-there include rest behind next s p e =
     let b = bars-sound behind next e in
-    let split : rest ≡ p.part ++ (b.before ++ (124 ∷ (124 ∷ (b.after ++ next)))) = p.split ∙ ap (λ (t : List ℕ). p.part ++ t) b.divided in
+    let split : rest ≡ p.part ++ (b.before ++ (124 ∷ (124 ∷ (b.after ++ next)))) = cc (p.split, b.divided) in
     (rw split (behind-bars p.part _ (behind-bars b.before _ refl)), omega (arith, simp length-append at (ap length split)))
 
 pub loop-goes : (include : Bool) (text : List ℕ) (found new : List (Span VersionValue)) (rest behind next : List ℕ)

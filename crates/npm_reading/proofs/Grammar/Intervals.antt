@@ -9,7 +9,7 @@ use Rattle.npm_words.proofs.Common.{is_eq, is_ge, is_gt, is_le, is_lt, is_unboun
 use Rattle.npm_words.proofs.{Common.satisfies, Grammar.{AlternativeLaw.alternatives_once, Rows.{holds-both, lets_in-both}}}
 use Rattle.npm_words.specs.{Alternatives.{common, interval_in, names, satisfying}, Internal.Meaning.is_open, Table.lowest}
 use Rattle.semver_core.{proofs.Gate.{both, past-after, past-before}, specs.{Text.Comparators.Comparator, declared.cuts.bound.Bound.Bound}}
-use Rattle.std.specs.List.{cons_option, filter_map}
+use Rattle.std.specs.List.{filter_map}
 use Rattle.npm_words.specs.Alternatives as Npm
 
 -- ---- one comparator
@@ -43,36 +43,22 @@ held [] v = refl
 held (c ∷ cs) v = holds-both (satisfying c) (shared cs) v
     ∙ ap₂ (λ (a b : Bool). a && b) (holds-compared c.sign c.version c.text v) (held cs v)
 
-either : (r n m : Bool) → ((r || n) || (r || m)) ≡ (r || (n || m))
-either r n m = grind arith
-
 let_in : (cs : List Comparison) (v : VersionValue) → holds precedence (shared cs) v ≡ true
     → lets_in (shared cs) v ≡ (is_release v || list_any (names v) cs)
 let_in [] v h = refl
 let_in (c ∷ cs) v h =
     let (a, b) = and_parts _ _ (sym (holds-both (satisfying c) (shared cs) v) ∙ h) in
-    lets_in-both (satisfying c) (shared cs) v a b
-    ∙ ap₂ (λ (p q : Bool). p || q) (lets_in-compared c.sign c.version c.text v) (let_in cs v b)
-    ∙ either (is_release v) (names v c) (list_any (names v) cs)
+    grind (arith, lets_in-both (satisfying c) (shared cs) v a b, lets_in-compared c.sign c.version c.text v, let_in cs v b)
 
 -- the span holds v, and lets it in or pre-releases are included
 abbrev lets : Bool → VersionValue → Span VersionValue → Bool
 lets include v s = holds precedence s v && (include || lets_in s v)
 
-held_let : (h l r i n : Bool) → (h ≡ true → l ≡ (r || n)) → ((h && (i || l)) || false) ≡ (h && (r || (i || n)))
-held_let h l r i n f = grind arith
-
 shared_accepts : (include : Bool) (v : VersionValue) (cs : List Comparison)
     → list_any (lets include v) (option_to_list (interval precedence (shared cs))) ≡ meets include v cs
 shared_accepts include v cs = cond_both (is_interval precedence (shared cs)) (Some (shared cs)) None
-    (λ o. list_any (lets include v) (option_to_list o) ≡ meets include v cs)
-    (λ _. rw (← held cs v) (held_let (holds precedence (shared cs) v) (lets_in (shared cs) v) (is_release v) include (list_any (names v) cs) (let_in cs v)))
-    (λ i. let none : list_all (satisfies v) cs ≡ false = sym (held cs v) ∙ sym (option_holds-interval precedence_total (shared cs) v) ∙ rw i refl in
-    rw none refl)
-
-one_accepts : (include : Bool) (v : VersionValue) (cs : List Comparison)
-    → list_any (lets include v) (option_to_list (interval_in include cs)) ≡ meets include v (counted include cs)
-one_accepts include v cs = shared_accepts include v (counted include cs)
+    (λ o. list_any (lets include v) (option_to_list o) ≡ meets include v cs) (λ _. grind (arith, held cs v, let_in cs v))
+    (λ i. grind (arith, i, held cs v, option_holds-interval precedence_total (shared cs) v))
 
 -- ---- an alternative without bounds
 
@@ -80,11 +66,8 @@ opened : (b c : Bound VersionValue) → (is_open (greater_lower precedence b c) 
     × (is_open (lesser_upper precedence b c) ≡ (is_open b && is_open c))
 opened b c = (grind arith, grind arith)
 
-crossed : (a b c d : Bool) → (a && c) ≡ false → ((a && b) && (c && d)) ≡ false
-crossed a b c d h = grind arith
-
 both-bound : (s t : Span VersionValue) → is_unbounded s ≡ false → is_unbounded (both s t) ≡ false
-both-bound s t h = rw ((opened s.lower t.lower).0, (opened s.upper t.upper).1) (crossed (is_open s.lower) (is_open t.lower) (is_open s.upper) (is_open t.upper) h)
+both-bound s t h = grind (arith, opened)
 
 shared_open : (cs : List Comparison) → list_any is_unbounded (option_to_list (interval precedence (shared cs))) ≡ is_empty cs
 shared_open [] = refl
@@ -97,24 +80,14 @@ counted-none : (include : Bool) (cs : List Comparison) → is_empty (counted inc
 counted-none include [] = refl
 counted-none include (c ∷ cs) = grind (arith, nat_tests, common_steps, counted-none include cs)
 
-one_open : (include : Bool) (cs : List Comparison)
-    → list_any is_unbounded (option_to_list (interval_in include cs)) ≡ not (list_any (counts include) cs)
-one_open include cs = shared_open (counted include cs) ∙ counted-none include cs
-
 -- ---- the alternatives
-
-any-one : (p : Span VersionValue → Bool) (o : Option (Span VersionValue)) (ss : List (Span VersionValue))
-    → list_any p (cons_option o ss) ≡ (list_any p (option_to_list o) || list_any p ss)
-any-one p None ss = refl
-any-one p (Some s) ss = grind arith
 
 -- a test of the intervals that each of them passes where its alternative passes another
 any-intervals : (include : Bool) (p : Span VersionValue → Bool) (q : List Comparison → Bool)
     → ((cs : List Comparison) → list_any p (option_to_list (interval_in include cs)) ≡ q cs) → (alternatives : List (List Comparison))
     → list_any p (filter_map (interval_in include) alternatives) ≡ list_any q alternatives
 any-intervals include p q f [] = refl
-any-intervals include p q f (cs ∷ rest) = any-one p (interval_in include cs) (filter_map (interval_in include) rest)
-    ∙ ap₂ (λ (a b : Bool). a || b) (f cs) (any-intervals include p q f rest)
+any-intervals include p q f (cs ∷ rest) = grind (arith, nat_tests, f cs, any-intervals include p q f rest)
 
 least : (v : VersionValue) → is_past precedence (Beside (lowest (0, 0, 0)) false) v ≡ true
 least v = (grind arith)
@@ -127,18 +100,17 @@ open_meets v (c ∷ cs) h = let e : false ≡ true = h in cc e
 open_accepts : (include : Bool) (v : VersionValue) (alternatives : List (List Comparison))
     → list_any (λ cs. not (list_any (counts include) cs)) alternatives ≡ true
     → accepts any_version v include ≡ Npm.accepts include alternatives v
-open_accepts true v alternatives h = sym (any_weaker _ (λ cs. meets true v (counted true cs)) (open_meets v) alternatives h)
-open_accepts false v alternatives h = rw h (grind arith)
+open_accepts include v alternatives h = grind (arith, any_weaker _ (λ cs. meets true v (counted true cs)) (open_meets v) alternatives)
 
 none_or_some : (ss : List (Span VersionValue)) (v : VersionValue) (include : Bool)
     → accepts (if is_empty ss then nothing ∷ [] else ss) v include ≡ accepts ss v include
-none_or_some [] v include = rw (least v) refl
-none_or_some (s ∷ ss) v include = refl
+none_or_some ss v include = grind (arith, least v)
 
 pub intervals_accept : (include : Bool) (alternatives : List (List Comparison)) (v : VersionValue)
     → accepts (intervals_in include alternatives) v include ≡ Npm.accepts include alternatives v
 intervals_accept include alternatives v =
-    let same = any-intervals include (lets include v) (λ cs. meets include v (counted include cs)) (one_accepts include v) alternatives in
+    let same = any-intervals include (lets include v) (λ cs. meets include v (counted include cs))
+    (λ cs. shared_accepts include v (counted include cs)) alternatives in
     grind (arith, same, open_accepts, none_or_some)
 
 -- ---- the range of a text
@@ -166,5 +138,6 @@ pub ranged-found : (include : Bool) (alternatives : List (List Comparison)) (fou
     → ranged found ≡ intervals_in include alternatives
 ranged-found include alternatives found h = rw (
   h.are,
-  any-intervals include is_unbounded (λ cs. not (list_any (counts include) cs)) (one_open include) alternatives,
+  any-intervals include is_unbounded (λ cs. not (list_any (counts include) cs))
+  (λ cs. shared_open (counted include cs) ∙ counted-none include cs) alternatives,
 ) refl

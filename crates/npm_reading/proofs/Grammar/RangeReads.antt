@@ -1,20 +1,20 @@
 -- The alternatives of a range text, read one after another, and what their intervals accept.
-use Rattle.nodejs_semver.proofs.Common.{Bool, Bor, Err, Failure, IfSome, IsCutAtBars, IsRange, IsUtf8, List, MAX_SAFE_INTEGER, Memory, MemoryOnlyIf}
-use Rattle.nodejs_semver.proofs.Common.{None, Ok, Option, Refused, Result, Some, Span, VersionValue, [], accepts, and-false, and_parts, ap}
-use Rattle.nodejs_semver.proofs.Common.{append-nil, append_assoc, arith, cases_Bool, common_steps, cond_both, cond_some, drop_spaces, false}
-use Rattle.nodejs_semver.proofs.Common.{if◌then◌else◌, inl, inr, is_empty, is_interval, is_range_span, is_some, later_parts, length}
-use Rattle.nodejs_semver.proofs.Common.{length-append, list_all, list_all-append, nat_tests, not, not-true, option_to_list, parts, precedence, refl}
-use Rattle.nodejs_semver.proofs.Common.{same_Some, subst, sym, true, ℕ, ◌&&◌, ◌++◌, ◌+◌, ◌<◌, ◌∙◌, ◌∷◌, ◌≡◌, ◌≤◌}
+use Rattle.nodejs_semver.proofs.Common.{Bool, Bor, Failure, IfSome, IsCutAtBars, IsRange, IsUtf8, List, MAX_SAFE_INTEGER, MemoryOnlyIf, None, Option}
+use Rattle.nodejs_semver.proofs.Common.{Result, Some, Span, VersionValue, [], accepts, and_parts, ap, append-nil, append_assoc, arith, cases_Bool}
+use Rattle.nodejs_semver.proofs.Common.{common_steps, cond_both, cond_some, drop_spaces, false, if◌then◌else◌, is_empty, is_interval, is_range_span}
+use Rattle.nodejs_semver.proofs.Common.{is_some, later_parts, length, length-append, list_all, list_all-append, nat_tests, not, not-true}
+use Rattle.nodejs_semver.proofs.Common.{option_to_list, parts, precedence, refl, same_Some, subst, sym, true, ℕ, ◌&&◌, ◌++◌, ◌+◌, ◌<◌, ◌∙◌, ◌∷◌, ◌≡◌}
+use Rattle.nodejs_semver.proofs.Common.{◌≤◌}
 use Rattle.npm_reading.proofs.Grammar.{Intervals.{narrowed-interval, range_accepts, ranged-found}, WordLoop.{AreWordsTo, first-none, valid-found}}
 use Rattle.npm_reading.{proofs.Grammar.WordLoop.{words-end, words-next, words-none}, specs.Internal.Alternatives.{NarrowedBy, ranged}}
 use Rattle.npm_reading.specs.Internal.Reads.{AddsPart, AreAllFound, AreFound, IsFound, IsStep, first_valid, valid_alternative, valid_alternatives}
 use Rattle.npm_reading.specs.{Internal.Reads.{valid_range, words_of}, Ranges.IsRangeIn, Readings.{OfAccepted, ReadText}}
 use Rattle.{npm_reading.specs.declared.alternatives.Alternative.Alternative, npm_words.proofs.Common.{Comparison, Ended, HasAlternativesIn}}
-use Rattle.npm_words.proofs.Common.{IsNarrowed, alternative_of, alternatives_of, ap₂, behind_ignored, capped_in, capped_partial, first_word}
-use Rattle.npm_words.proofs.Common.{hyphen_ends, hyphen_of, is_free_lower, is_free_upper, is_lost, is_right, is_short_word, is_valid, kept, lower_of}
+use Rattle.npm_words.proofs.Common.{IsNarrowed, alternative_of, alternatives_of, capped_in, capped_partial, first_word, hyphen_ends, hyphen_of}
+use Rattle.npm_words.proofs.Common.{is_free_lower, is_free_upper, is_lost, is_right, is_short_word, is_valid, kept, lower_of}
 use Rattle.npm_words.proofs.{Common.{signed_front_view, signed_word, upper_of, valid_one, words_of_all}, Grammar.AlternativeLaw.alternatives_are}
 use Rattle.npm_words.proofs.Grammar.{Hyphens.{both_capped, hyphen-capped}, Printed.{capped-valid, table-invalid, valid-same}}
-use Rattle.npm_words.specs.{Alternatives.interval_in, Table.{Partial, table}, declared.words.Signed.Signed}
+use Rattle.npm_words.specs.{Table.{Partial, table}, declared.words.Signed.Signed}
 use Rattle.semver_core.{proofs.Dividing.BarsDivide.bars_once, specs.{Failures.{NoValue, RefusedOnlyIf}, Internal.Reading.◌>>?◌}}
 use Rattle.std.{proofs.lemmas.List.Elements.filter_map-append, specs.{List.cons_option, Prelude.is_none}}
 use Rattle.npm_words.specs.Internal.Words as Words
@@ -38,32 +38,17 @@ pub hyphen-alternative : (loose include : Bool) (text : List ℕ) (e : Ended × 
 unfolding valid_alternative alternative_of
 hyphen-alternative loose include text e h = rw h (sym (hyphen-capped loose include e.0 e.1))
 
--- and where it is words
-pub words-alternative : (loose include : Bool) (text : List ℕ) → hyphen_ends loose text ≡ None
-    → valid_alternative loose include text ≡ (words_of loose include text >>? λ all. Some (words_of_all all))
-unfolding valid_alternative alternative_of
-words-alternative loose include text h = rw h (grind arith)
-
 -- the ends as the code has them
 pub ends-as : (o : Option (Ended × Ended)) (x : Ended × Ended) → Some x ≡ both_capped o
     → (e : Ended × Ended) × (o ≡ Some e) × (x ≡ (capped_in e.0, capped_in e.1))
 ends-as None x h = cc h
 ends-as (Some e) x h = (e, refl, same_Some _ _ h)
 
-pub ends-none : (o : Option (Ended × Ended)) → None ≡ both_capped o → o ≡ None
-ends-none o h = grind arith
-
 -- ---- what is found between two ends
 
 module _ (loose include : Bool) (a b : Ended) where
   abbrev Between : Option Alternative → Type 0
   Between r = IsFound include (hyphen_of loose include (a, b) >>? valid_one) r
-
-  pub lower-wrong : is_right loose is_free_lower a ≡ false → Between None
-  lower-wrong h = rw h tt
-
-  pub upper-wrong : is_right loose (is_free_upper include) b ≡ false → Between None
-  upper-wrong h = rw (h, and-false (is_right loose is_free_lower a)) tt
 
   module _ (low : is_right loose is_free_lower a ≡ true) (up : is_right loose (is_free_upper include) b ≡ true) where
     pub lower-none : list_all (is_valid MAX_SAFE_INTEGER) (lower_of include a) ≡ false → Between None
@@ -72,29 +57,16 @@ module _ (loose include : Bool) (a b : Ended) where
     pub upper-found : (all f : Alternative) (g : Option Alternative) → IsNarrowed include [] all.interval
         → NarrowedBy include all.interval (lower_of include a) (Some f) → NarrowedBy include f.interval (upper_of include b) g
         → IfSome g (λ g. g.is_lost ≡ false) → Between g
-    upper-found all f None first n m lost = rw (low, up, list_all-append (is_valid MAX_SAFE_INTEGER) (lower_of include a) (upper_of include b), n.0, m) tt
+    upper-found all f None first n m lost = grind (arith, nat_tests, list_all-append)
     upper-found all f (Some g) first n m lost =
         rw (low, up, list_all-append (is_valid MAX_SAFE_INTEGER) (lower_of include a) (upper_of include b), n.0, m.0) (m.1 (lower_of include a) (n.1 [] first), lost)
 
 -- ---- one word more
 
 module _ (loose include : Bool) (text : List ℕ) (all : Alternative) where
-  pub step-ignored : (next : Bor (List ℕ)) → loose ≡ true → signed_word loose text ≡ None → next.now ≡ drop_spaces (behind_ignored (length text) text)
-      → IsStep include all (first_valid loose include text) (Some (all, true, next))
-  unfolding first_word
-  step-ignored next l e f = grind (arith, append-nil)
-
-  pub step-strict : loose ≡ false → signed_word loose text ≡ None → IsStep include all (first_valid loose include text) None
-  unfolding first_word
-  step-strict l e = rw (e, l) tt
-
   module _ (w : Words.Signed × List ℕ) (e : signed_word loose text ≡ Some w) where
     abbrev Row : Partial → List Comparison
     Row p = table include w.0.0 p w.0.2
-
-    pub step-long : is_short_word loose w.0.2 ≡ false → IsStep include all (first_valid loose include text) None
-    unfolding first_word
-    step-long n = rw (e, n) tt
 
     pub step-invalid : NarrowedBy include all.interval (Row (capped_partial w.0.1)) None → IsStep include all (first_valid loose include text) None
     unfolding first_word
@@ -117,8 +89,7 @@ step-found include all None s h = absurd h
 step-found include all (Some w) s h = (w, refl, h)
 
 step-none : (include : Bool) (all : Alternative) (o : Option (Option (List Comparison) × List ℕ)) → IsStep include all o None → o ≡ None
-step-none include all None h = refl
-step-none include all (Some w) h = absurd h
+step-none include all o h = grind arith
 
 abbrev pub found_of : Bool → Bool → List ℕ → Option (Bool × List Comparison)
 found_of loose include text = words_of loose include text >>? λ all. Some (words_of_all all)
@@ -135,26 +106,16 @@ module _ (loose include : Bool) (text rest : List ℕ) (all : Alternative) (is_l
       → AreWordsTo loose include text s.0.interval s.0.is_bare s.1 s.2.now × (length s.2.now < length rest)
   word-next s some k =
       let w = step-found include all (first_valid loose include rest) s k in
-      let f = valid-found loose include rest w.0 h.utf8 some w.1 in (
-        subst (λ (b : Bool). AreWordsTo loose include text s.0.interval s.0.is_bare b s.2.now) (sym w.2.2)
-            (subst (λ (t : List ℕ). AreWordsTo loose include text s.0.interval s.0.is_bare (is_none w.0.0) t) (sym w.2.3)
-            (words-next loose include text rest all.interval all.is_bare is_last h w.0 s.0 some w.1 w.2.0 w.2.1)),
-        rw w.2.3 f.shorter,
-      )
+      let f = valid-found loose include rest w.0 h.utf8 some w.1 in
+      let next = words-next loose include text rest all.interval all.is_bare is_last h w.0 s.0 some w.1 w.2.0 w.2.1 in
+      (simp (w.2.2, w.2.3) next, rw w.2.3 f.shorter)
 
   pub words-all : (a : Alternative) (lost : Bool) → IsUtf8 text → is_empty rest ≡ true → a.interval ≡ all.interval → a.is_lost ≡ (all.is_bare && lost)
       → (is_last ≡ false → lost ≡ false) → (is_last ≡ true → lost ≡ is_none (signed_word loose text))
       → IsFound include (found_of loose include text) (Some a)
   words-all a lost u e f g not_last if_last =
       let read = words-end loose include text rest all.interval all.is_bare is_last h e in
-      rw (read, f) (h.narrowed, g ∙ same read)
-    where
-      same : words_of loose include text ≡ Some h.read → (all.is_bare && lost) ≡ is_lost h.read
-      same read = elim (cases_Bool is_last) [
-        | inr k ↦ grind (arith, h.bare, h.last, k, not_last k)
-        | inl k ↦
-            grind (arith, h.bare, h.last, k, if_last k, first-none loose include text h.read u read (sym h.last ∙ k))
-      ]
+      rw (read, f) (h.narrowed, grind (arith, h.bare, h.last, g, not_last, if_last, first-none loose include text h.read u read))
 
 pub view-none : (o : Option (Signed × Bor (List ℕ))) (b : Bool) → is_some o ≡ not b → b ≡ is_none (signed_front_view o)
 view-none o b e = grind arith
@@ -172,17 +133,14 @@ one-span include cs o h = rw h.is (cond_both (is_interval precedence h.span) (So
     (λ m. list_all (is_range_span (MAX_SAFE_INTEGER + 1)) (option_to_list m) ≡ true) (λ i. rw (i, h.has.lower, h.has.upper) refl) (λ _. refl))
 
 cons-append : (o : Option (Span VersionValue)) (ss : List (Span VersionValue)) → cons_option o ss ≡ option_to_list o ++ ss
-cons-append None ss = refl
-cons-append (Some s) ss = refl
+cons-append o ss = grind arith
 
 -- an alternative behind others, and before them
 found-append : (include : Bool) (ls : List (List Comparison)) (cs : List Comparison) (o : Option (Span VersionValue))
     (before after : List (Span VersionValue)) → AreFound include ls before → IsNarrowed include cs o → after ≡ before ++ option_to_list o
     → AreFound include (ls ++ cs ∷ []) after
 found-append include ls cs o before after h k e = record {
-  are = e ∙ ap₂ (λ (x y : List (Span VersionValue)). x ++ y) h.are
-      (ap (λ m. option_to_list m) (narrowed-interval include cs o k) ∙ sym (cons-append (interval_in include cs) [] ∙ append-nil _))
-      ∙ sym (filter_map-append (interval_in include) ls (cs ∷ []));
+  are = grind (arith, nat_tests, e, h.are, narrowed-interval include cs o k, cons-append, append-nil, filter_map-append);
   spans = rw (e, list_all-append (is_range_span (MAX_SAFE_INTEGER + 1)) before (option_to_list o), h.spans, one-span include cs o k) refl;
 }
 
@@ -190,24 +148,14 @@ pub found-cons : (include : Bool) (ls : List (List Comparison)) (cs : List Compa
     (others : List (Span VersionValue)) → AreFound include ls others → IsNarrowed include cs o
     → AreFound include (cs ∷ ls) (option_to_list o ++ others)
 found-cons include ls cs o others h k = record {
-  are = ap₂ (λ (m : Option (Span VersionValue)) (l : List (Span VersionValue)). option_to_list m ++ l) (narrowed-interval include cs o k) h.are
-      ∙ sym (cons-append (interval_in include cs) _);
+  are = grind (arith, nat_tests, h.are, narrowed-interval include cs o k, cons-append);
   spans = rw (list_all-append (is_range_span (MAX_SAFE_INTEGER + 1)) (option_to_list o) others, h.spans, one-span include cs o k) refl;
 }
 
--- one part more, which is lost or not
-pub part-lost : (include : Bool) (o : Option (Bool × List Comparison)) (a : Alternative) (was : Bool) (before : List (Span VersionValue))
-    → IsFound include o (Some a) → a.is_lost ≡ true → AddsPart include o was was before before
-part-lost include o a was before h l = grind arith
-
 pub part-added : (include : Bool) (o : Option (Bool × List Comparison)) (a : Alternative) (was : Bool) (before after : List (Span VersionValue))
     → IsFound include o (Some a) → a.is_lost ≡ false → after ≡ before ++ option_to_list a.interval → AddsPart include o was true before after
-part-added include (Some (true, cs)) a was before after h l e = cc (h.1, l)
-part-added include (Some (false, cs)) a was before after h l e = (
-  refl,
-  λ ls k. found-append include ls cs a.interval before after k h.0 e,
-)
-part-added include None a was before after h l e = h
+part-added include (Some (false, cs)) a was before after h l e = (refl, λ ls k. found-append include ls cs a.interval before after k h.0 e)
+part-added include o a was before after h l e = grind arith
 
 -- ---- the alternatives, up to a rest of the text
 
@@ -255,10 +203,8 @@ read-part loose include text was is found after rest part behind h e a = go _ re
     }
 
 -- the same of a call that rejects the part
-refused-weaker : {A E : Type 0} {P Q : Type 0} (r : Result A (Failure E)) → (P → Q) → RefusedOnlyIf r P → RefusedOnlyIf r Q
-refused-weaker (Err (Refused x)) f k = f k
-refused-weaker (Err (Memory x)) f k = tt
-refused-weaker (Ok x) f k = tt
+pub refused-weaker : {A E : Type 0} {P Q : Type 0} (r : Result A (Failure E)) → (P → Q) → RefusedOnlyIf r P → RefusedOnlyIf r Q
+refused-weaker r f k = grind (arith, f)
 
 pub read-refused : (loose : Bool) {A E : Type 0} (r : Result A (Failure E)) (include : Bool) (text : List ℕ) (was : Bool)
     (found : List (Span VersionValue)) (rest part : List ℕ) (behind : Option (List ℕ)) → AreReadTo loose include text was found (Some rest)
@@ -266,15 +212,10 @@ pub read-refused : (loose : Bool) {A E : Type 0} (r : Result A (Failure E)) (inc
     → RefusedOnlyIf r (valid_range loose include text ≡ None)
 read-refused loose r include text was found rest part behind h e = refused-weaker r (λ k. rw (h.same, rest-step loose include rest part behind None e k) refl)
 
-all-read : (loose include is_some : Bool) (text : List ℕ) (found : List (Span VersionValue)) (h : AreReadTo loose include text is_some found None)
+pub all-read : (loose include is_some : Bool) (text : List ℕ) (found : List (Span VersionValue)) (h : AreReadTo loose include text is_some found None)
     → valid_range loose include text ≡ (if is_some then Some h.read else None)
 unfolding valid_alternatives
 all-read loose include is_some text found h = rw (h.same, append-nil h.read, h.some) refl
-
--- no part was an alternative
-pub read-nothing : (loose include : Bool) (text : List ℕ) (found : List (Span VersionValue)) → AreReadTo loose include text false found None
-    → valid_range loose include text ≡ None
-read-nothing loose include text found h = all-read loose include false text found h
 
 pub read-all : (loose include : Bool) (text : List ℕ) (found : List (Span VersionValue)) → AreReadTo loose include text true found None
     → AreAllFound include (valid_range loose include text) found
@@ -292,20 +233,10 @@ lost-valid loose include text cs h = grind (arith, and_parts)
 abbrev valid_lists : List (List Comparison) → Option (List (List Comparison))
 valid_lists ls = if list_all (list_all (is_valid MAX_SAFE_INTEGER)) ls then Some ls else None
 
-one-more-valid : (a : Bool × List Comparison) (o : Option (List (List Comparison))) → (a.0 ≡ true → list_all (is_valid MAX_SAFE_INTEGER) a.1 ≡ true)
-    → (valid_one a >>? λ a. (o >>? valid_lists) >>? λ rest. Some (kept a rest)) ≡ ((o >>? λ rest. Some (kept a rest)) >>? valid_lists)
-one-more-valid a o h = grind (arith, h)
-
 all-valid : (loose include : Bool) (texts : List (List ℕ)) → valid_alternatives loose include texts ≡ (alternatives_of loose include texts >>? valid_lists)
 unfolding valid_alternatives valid_alternative alternatives_of
 all-valid loose include [] = refl
-all-valid loose include (text ∷ texts) = rw (all-valid loose include texts) (go (alternative_of loose include text) refl)
-  where
-    go : (o : Option (Bool × List Comparison)) → alternative_of loose include text ≡ o
-        → ((o >>? valid_one) >>? λ a. (alternatives_of loose include texts >>? valid_lists) >>? λ rest. Some (kept a rest))
-        ≡ ((o >>? λ a. alternatives_of loose include texts >>? λ rest. Some (kept a rest)) >>? valid_lists)
-    go None e = refl
-    go (Some a) e = one-more-valid a (alternatives_of loose include texts) (λ lost. lost-valid loose include text a.1 (e ∙ rw (← lost) refl))
+all-valid loose include (text ∷ texts) = grind (arith, nat_tests, all-valid loose include texts, lost-valid loose include text)
 
 pub none-read : (loose include : Bool) (text : List ℕ) → IsUtf8 text → valid_range loose include text ≡ None
     → NoValue (HasAlternativesIn loose MAX_SAFE_INTEGER include text)
@@ -326,10 +257,6 @@ range-read loose include text found range u h a = go (valid_range loose include 
         → IsRangeIn loose MAX_SAFE_INTEGER include text range
     go None e k = absurd k
     go (Some all) e k = record { alternatives = all; has = has-read loose include text all u e; is = a ∙ ranged-found include all found k }
-
-pub refused-none : (loose : Bool) {A E : Type 0} (r : Result A (Failure E)) (include : Bool) (text : List ℕ) → IsUtf8 text
-    → RefusedOnlyIf r (valid_range loose include text ≡ None) → RefusedOnlyIf r (NoValue (HasAlternativesIn loose MAX_SAFE_INTEGER include text))
-refused-none loose r include text u = refused-weaker r (none-read loose include text u)
 
 pub memory-pieces : {A E : Type 0} (r : Result A (Failure E)) (text : List ℕ) → MemoryOnlyIf r (1 < length (parts text))
     → MemoryOnlyIf r ((pieces : List (List ℕ)) → IsCutAtBars text pieces → 1 < length pieces)

@@ -1,7 +1,7 @@
 -- The words of an alternative whose comparators are valid, one after another.
 use Rattle.nodejs_semver.proofs.Common.{Bool, IsUtf8, List, MAX_SAFE_INTEGER, None, Option, Some, Span, VersionValue, [], ap, append-nil}
-use Rattle.nodejs_semver.proofs.Common.{append_assoc, arith, bind_some, common_steps, cond_some, false, is_empty, length, list_all, list_all-append}
-use Rattle.nodejs_semver.proofs.Common.{nat_lt, nat_tests, prefix_len, refl, same_Some, subst, sym, true, ℕ, ◌&&◌, ◌++◌, ◌<◌, ◌∙◌, ◌∷◌, ◌≡◌}
+use Rattle.nodejs_semver.proofs.Common.{append_assoc, arith, bind_some, common_steps, false, is_empty, length, list_all-append, nat_lt, nat_tests}
+use Rattle.nodejs_semver.proofs.Common.{prefix_len, refl, same_Some, sym, true, ℕ, ◌&&◌, ◌++◌, ◌<◌, ◌∙◌, ◌∷◌, ◌≡◌}
 use Rattle.npm_reading.specs.Internal.{Alternatives.NarrowedBy, Reads.{first_valid, valid_all, valid_first, words_of}}
 use Rattle.{npm_reading.specs.declared.alternatives.Alternative.Alternative, npm_words.proofs.Common.{Comparison, IsNarrowed, comparators_of}}
 use Rattle.npm_words.proofs.{Common.{first_word, is_valid, signed_word, words_within}, Grammar.Words.{FirstAt, first-found}}
@@ -14,10 +14,7 @@ first-then w f = grind (arith, list_all-append (is_valid MAX_SAFE_INTEGER))
 
 pub valid-found : (loose include : Bool) (text : List ℕ) (w : Option (List Comparison) × List ℕ) → IsUtf8 text → 0 < length text
     → first_valid loose include text ≡ Some w → FirstAt loose include text w.0 w.1
-valid-found loose include text w u some h =
-    let f = bind_some (first_word loose include text) valid_first w h in
-    let t = cond_some (list_all (is_valid MAX_SAFE_INTEGER) (unwrap_or f.0.0 [])) f.0 w f.2 in
-    first-found loose include text w.0 w.1 u some (f.1 ∙ ap (λ (r : Option (List Comparison) × List ℕ). Some r) t.1)
+valid-found loose include text w u some h = first-found loose include text w.0 w.1 u some (grind arith)
 
 -- one word after another
 words-on : (loose include : Bool) (text : List ℕ) → IsUtf8 text → 0 < length text
@@ -50,11 +47,7 @@ pub record AreWordsTo (loose include : Bool) (text : List ℕ) (all : Option (Sp
 pub words-begin : (loose include : Bool) (text : List ℕ) (all : Option (Span VersionValue)) (is_bare : Bool) → IsUtf8 text
     → IsNarrowed include [] all → is_bare ≡ true → AreWordsTo loose include text all is_bare false text
 words-begin loose include text all is_bare u h b =
-    record { read = []; bare = b; last = refl; narrowed = h; same = kept (words_of loose include text); utf8 = u }
-  where
-    kept : (o : Option (List (Option (List Comparison)))) → o ≡ (o >>? λ ds. Some ([] ++ ds))
-    kept None = refl
-    kept (Some ds) = refl
+    record { read = []; bare = b; last = refl; narrowed = h; same = grind arith; utf8 = u }
 
 empty-append : (cs ds : List Comparison) → is_empty (cs ++ ds) ≡ (is_empty cs && is_empty ds)
 empty-append cs ds = grind (arith, nat_tests, common_steps)
@@ -79,15 +72,10 @@ module _ (loose include : Bool) (text rest : List ℕ) (all : Option (Span Versi
     read = h.read ++ w.0 ∷ [];
     bare = b ∙ rw h.bare (sym (ap is_empty (one-more h.read w.0) ∙ empty-append (comparators_of h.read) (unwrap_or w.0 [])));
     last = sym (last-more h.read w.0);
-    narrowed = subst (λ (l : List Comparison). IsNarrowed include l a.interval) (sym (one-more h.read w.0)) (n.1 (comparators_of h.read) h.narrowed);
-    same = h.same ∙ rw (words-on loose include rest h.utf8 some, e) (joined (words_of loose include w.1));
+    narrowed = rw (one-more h.read w.0) (n.1 (comparators_of h.read) h.narrowed);
+    same = grind (arith, h.same, words-on loose include rest h.utf8 some, append_assoc);
     utf8 = (valid-found loose include rest w h.utf8 some e).utf8;
   }
-    where
-      joined : (o : Option (List (Option (List Comparison))))
-          → ((o >>? λ ds. Some (w.0 ∷ ds)) >>? λ ds. Some (h.read ++ ds)) ≡ (o >>? λ ds. Some ((h.read ++ w.0 ∷ []) ++ ds))
-      joined None = refl
-      joined (Some ds) = ap (λ (l : List (Option (List Comparison))). Some l) (sym (append_assoc h.read (w.0 ∷ []) ds))
 
   -- no word where one is to be, or one that is not valid
   pub words-none : 0 < length rest → first_valid loose include rest ≡ None → words_of loose include text ≡ None

@@ -1,10 +1,10 @@
 -- The malformed end of a hyphen range.
 use Rattle.npm_words.proofs.Common.{AreRead, Bool, Comparison, Ended, IsUtf8, List, MAX_SAFE_INTEGER, None, Option, Some, [], after_byte, after_ends}
-use Rattle.npm_words.proofs.Common.{and_parts, ap, append_assoc, are_normal, arith, begins, bind_some, capped_in, cases_Bool, cond_some, drop_at}
-use Rattle.npm_words.proofs.Common.{drop_ends, drop_spaces, encode_utf8_all, end_front, false, from_boundary, if◌then◌else◌, inl, inr, is_empty}
-use Rattle.npm_words.proofs.Common.{is_free, is_free_lower, is_free_upper, is_mark, is_right, is_some, is_valid, last_end, length, length-append}
-use Rattle.npm_words.proofs.Common.{list_all, lower_of, lt-ltb, nat_lt, nat_tests, refl, same_Some, space_len, space_len-nil, subst, suc, sym, take}
-use Rattle.npm_words.proofs.Common.{take_at, true, upper_of, zero, ℕ, ◌++◌, ◌+◌, ◌-◌, ◌==◌, ◌>>?◌, ◌∙◌, ◌∷◌, ◌≡◌, ◌≤◌}
+use Rattle.npm_words.proofs.Common.{and_parts, ap, append_assoc, are_normal, arith, begins, bind_some, capped_in, cond_some, drop_at, drop_ends}
+use Rattle.npm_words.proofs.Common.{drop_spaces, encode_utf8_all, end_front, false, from_boundary, if◌then◌else◌, inr, is_empty, is_free}
+use Rattle.npm_words.proofs.Common.{is_free_lower, is_free_upper, is_mark, is_right, is_some, is_valid, last_end, length, length-append, list_all}
+use Rattle.npm_words.proofs.Common.{lower_of, nat_tests, refl, space_len, space_len-nil, subst, suc, sym, take_at, true, upper_of, zero, ℕ, ◌++◌, ◌+◌}
+use Rattle.npm_words.proofs.Common.{◌-◌, ◌>>?◌, ◌∙◌, ◌∷◌, ◌≡◌, ◌≤◌}
 use Rattle.npm_words.proofs.{FlawPlaces.Ranges.one_malformed_word, Grammar.Hyphens.{end-found, end-normal, end-read, ends-found, ends-read}}
 use Rattle.npm_words.proofs.Grammar.{Hyphens.{free-capped, front-is, normal-capped, right-end}, Printed.{capped-valid, lower-invalid, upper-invalid}}
 use Rattle.npm_words.{proofs.Common.empty_is, specs.Internal.{Ends.{behind_end, is_lower, is_right_one, is_upper}, Words.after_dash}}
@@ -23,22 +23,14 @@ ends-gone : (n : ℕ) (text : List ℕ) → end_len (after_ends n text) ≡ 0
 unfolding after_ends
 ends-gone n [] = refl
 ends-gone (suc n) (b ∷ rest) = ends-gone n rest
-ends-gone zero (b ∷ rest) = go (λ n. ends-gone n rest) (is_mark b) refl (space_len (b ∷ rest)) refl
-  where
-    go : ((n : ℕ) → end_len (after_ends n rest) ≡ 0) → (m : Bool) → is_mark b ≡ m → (n : ℕ) → space_len (b ∷ rest) ≡ n
-        → end_len (after_ends 0 (b ∷ rest)) ≡ 0
-    go more true e n f = grind (arith, more 0)
-    go more false e zero f = grind arith
-    go more false e (suc n) f = grind (arith, more n)
+ends-gone zero (b ∷ rest) =
+    let more : (n : ℕ) → end_len (after_ends n rest) ≡ 0 = λ n. ends-gone n rest in grind (arith, nat_tests, more)
 
 mark-gone : (text : List ℕ) → end_len text ≡ 0 → (begins is_mark text ≡ false) × (space_len text ≡ 0)
 mark-gone text h = grind (arith, nat_tests, space_len-nil)
 
 dark-len : (front rest : List ℕ) → IsUtf8 (front ++ rest) → (BeginsBlank rest → ⊥) → space_len rest ≡ 0
-dark-len front rest u h = elim (cases_Bool (nat_lt 0 (space_len rest))) [
-  | inl some ↦ absurd (h (some_space-is front rest (drop_spaces rest) u (rw some refl)).1)
-  | inr none ↦ grind (arith, nat_tests)
-]
+dark-len front rest u h = grind (arith, nat_tests, some_space-is front rest (drop_spaces rest) u)
 
 marks-is : (text : List ℕ) → IsUtf8 text → SkipsMarks text (drop_ends text)
 marks-is text u =
@@ -85,7 +77,7 @@ dash-is front text second u h =
     ((g.0, s.1, rw dash at s.2, t.1, t.2), skips-utf8 g.0 second t.2 w)
 
 some_space-of : (text rest : List ℕ) → IsUtf8 text → BeginsBlank text → drop_spaces text ≡ rest → after_some_space text ≡ Some rest
-some_space-of text rest u b s = rw (lt-ltb 0 (space_len text) (blank-len text b), s) refl
+some_space-of text rest u b s = grind (arith, nat_tests, blank-len)
 
 dash-of : (text second : List ℕ) → IsUtf8 text → SkipsDash text second → (after_dash text ≡ Some second) × IsUtf8 second
 dash-of text second u d =
@@ -128,20 +120,6 @@ form-read text u h =
     let d = dash-of h.before h.second v h.dash in
     let upper = place-of h.second [] d.1 h.upper in
     rw (before, d.0, upper, front-is text h.first h.before h.divided) refl
-
-module _ (text before : List ℕ) (e : before ≡ behind_end text) where
-  pub texts-none : None ≡ after_dash before → None ≡ end_texts text
-  unfolding end_texts
-  texts-none f = rw (← e, ← f) refl
-
-  module _ (second rest : List ℕ) (f : Some second ≡ after_dash before) (g : rest ≡ behind_end second) where
-    pub texts-more : (length rest == 0) ≡ false → None ≡ end_texts text
-    unfolding end_texts
-    texts-more h = let k : is_empty rest ≡ false = grind arith in rw (← e, ← f, ← g, k) refl
-
-    pub texts-some : (length rest == 0) ≡ true → Some (take (length text - length before) text, second) ≡ end_texts text
-    unfolding end_texts
-    texts-some h = let k : is_empty rest ≡ true = grind arith in rw (← e, ← f, ← g, k) refl
 
 -- ---- the ends that are right
 
@@ -186,31 +164,16 @@ upper-capped include e =
 -- of an end as the code has it
 module _ (include : Bool) (text : List ℕ) (o : Option Ended) (h : o ≡ (last_end false text >>? λ e. Some (capped_in e))) where
   pub lower-is : is_right_one is_free_lower (lower_of include) o ≡ is_lower include text
-  lower-is = rw h (go (last_end false text))
-    where
-      go : (o : Option Ended) → is_right_one is_free_lower (lower_of include) (o >>? λ e. Some (capped_in e)) ≡ is_right_one is_free_lower (lower_of include) o
-      go None = refl
-      go (Some e) = lower-capped include e
+  lower-is = grind (arith, lower-capped)
 
   pub upper-is : is_right_one (is_free_upper include) (upper_of include) o ≡ is_upper include text
-  upper-is = rw h (go (last_end false text))
-    where
-      go : (o : Option Ended) → is_right_one (is_free_upper include) (upper_of include) (o >>? λ e. Some (capped_in e))
-          ≡ is_right_one (is_free_upper include) (upper_of include) o
-      go None = refl
-      go (Some e) = upper-capped include e
+  upper-is = grind (arith, upper-capped)
 
 pub last-normal : (text : List ℕ) (e : Ended) → Some e ≡ (last_end false text >>? λ x. Some (capped_in x)) → are_normal e.1 ≡ true
-last-normal text e h =
-    let b = bind_some (last_end false text) (λ x. Some (capped_in x)) e (sym h) in
-    let l = bind_some (end_front false text) _ b.0 b.1 in
-    let c = cond_some (is_empty l.0.1) l.0.0 b.0 l.2 in
-    let normal : Ended → Bool = λ x. are_normal x.1 in
-    ap normal (sym (same_Some (capped_in b.0) e b.2)) ∙ normal-capped b.0.1 ∙ ap normal (sym c.1) ∙ end-normal false text l.0 l.1
+last-normal text e h = grind (arith, normal-capped, end-normal)
 
 pub bounds-valid : (include : Bool) (cs : List Comparison) (o : Option Bounds) → AreRead include cs o → list_all (is_valid MAX_SAFE_INTEGER) cs ≡ is_some o
-bounds-valid include cs None h = h
-bounds-valid include cs (Some b) h = h.0
+bounds-valid include cs o h = grind arith
 
 -- ---- the end that is wrong
 
@@ -226,9 +189,7 @@ form-utf8 text u h =
     (front-utf8 h.first h.before w v, (dash-of h.before h.second v h.dash).1)
 
 form-once : (text : List ℕ) → IsUtf8 text → (h k : HasEnds text) → (h.first ≡ k.first) × (h.second ≡ k.second)
-form-once text u h k =
-    let same = same_Some _ _ (sym (form-read text u h) ∙ form-read text u k) in
-    (ap (λ (x : List ℕ × List ℕ). x.0) same, ap (λ (x : List ℕ × List ℕ). x.1) same)
+form-once text u h k = grind (arith, form-read text u h, form-read text u k)
 
 module _ (include : Bool) (text : List ℕ) (u : IsUtf8 text) where
   abbrev Wrong : ℕ → ℕ → Type 0
@@ -241,24 +202,18 @@ module _ (include : Bool) (text : List ℕ) (u : IsUtf8 text) where
   module _ (e : List ℕ × List ℕ) (h : end_texts text ≡ Some e) where
     pub lower-wrong : is_lower include e.0 ≡ false → Wrong 0 (length e.0)
     lower-wrong bad =
-        let f = form-found text e u h in
-        lower f.0 (λ r. cc (sym bad ∙ ap (is_lower include) (sym f.1) ∙ right-read _ _ f.0.first r)) refl (ap length (sym f.1))
+        let f = form-found text e u h in lower f.0 (λ r. grind (arith, bad, f.1, right-read _ _ f.0.first r)) refl (ap length (sym f.1))
 
     lower-right : (k : HasEnds text) → is_lower include e.0 ≡ true → IsLower MAX_SAFE_INTEGER include k.first
-    lower-right k good =
-        let same = same_Some _ _ (sym (form-read text u k) ∙ h) in
-        right-found _ _ k.first (form-utf8 text u k).0 (ap (λ (x : List ℕ × List ℕ). is_lower include x.0) same ∙ good)
+    lower-right k good = right-found _ _ k.first (form-utf8 text u k).0 (grind (arith, form-read text u k))
 
     upper-right : (k : HasEnds text) → is_upper include e.1 ≡ true → IsUpper MAX_SAFE_INTEGER include k.second
-    upper-right k good =
-        let same = same_Some _ _ (sym (form-read text u k) ∙ h) in
-        right-found _ _ k.second (form-utf8 text u k).1 (ap (λ (x : List ℕ × List ℕ). is_upper include x.1) same ∙ good)
+    upper-right k good = right-found _ _ k.second (form-utf8 text u k).1 (grind (arith, form-read text u k))
 
     pub upper-wrong : (start : ℕ) → is_lower include e.0 ≡ true → is_upper include e.1 ≡ false → start + length e.1 ≡ length text → Wrong start (length text)
     upper-wrong start good bad size =
         let f = form-found text e u h in
-        upper f.0 (lower-right f.0 good) (λ r. cc (sym bad ∙ ap (is_upper include) (sym f.2) ∙ right-read _ _ f.0.second r))
-        (ap (λ (t : List ℕ). start + length t) f.2 ∙ size) refl
+        upper f.0 (lower-right f.0 good) (λ r. grind (arith, bad, f.2, right-read _ _ f.0.second r)) (rw f.2 size) refl
 
     pub both-right : is_lower include e.0 ≡ true → is_upper include e.1 ≡ true → (start end : ℕ) → Wrong start end → ⊥
     both-right low high start end (lower k bad s t) = bad (lower-right k low)
@@ -268,27 +223,15 @@ module _ (include : Bool) (text : List ℕ) (u : IsUtf8 text) where
   pub form-fits : (e : List ℕ × List ℕ) → end_texts text ≡ Some e → (length e.0 ≤ length text) × (length e.1 ≤ length text)
   form-fits e h =
       let f = form-found text e u h in
-      let k = f.0 in
-      let d = k.dash in (
-        omega (arith, ap length f.1, ap length k.divided, length-append k.first k.before),
-        omega (
-          arith,
-          ap length f.2,
-          ap length k.divided,
-          length-append k.first k.before,
-          ap length d.2.1,
-          length-append d.2.0 (45 ∷ d.0),
-          ap length d.4.1,
-          length-append d.4.0 k.second,
-        ),
+      let whole = simp length-append at (ap length f.0.divided) in (
+        omega (arith, ap length f.1, whole),
+        omega (arith, ap length f.2, whole, simp length-append at (ap length f.0.dash.2.1), simp length-append at (ap length f.0.dash.4.1)),
       )
 
   one_wrong_end : (a b c d : ℕ) → Wrong a b → Wrong c d → (a ≡ c) × (b ≡ d)
   one_wrong_end a b c d (lower h bad s e) (lower k other t f) = let same = form-once text u h k in (cc, cc (e, f, ap length same.0))
-  one_wrong_end a b c d (lower h bad s e) (upper k low other t f) =
-      absurd (bad (subst (λ (t : List ℕ). IsLower MAX_SAFE_INTEGER include t) (sym (form-once text u h k).0) low))
-  one_wrong_end a b c d (upper h low bad s e) (lower k other t f) =
-      absurd (other (subst (λ (t : List ℕ). IsLower MAX_SAFE_INTEGER include t) (form-once text u h k).0 low))
+  one_wrong_end a b c d (lower h bad s e) (upper k low other t f) = absurd (bad (rw (form-once text u h k).0 low))
+  one_wrong_end a b c d (upper h low bad s e) (lower k other t f) = absurd (other (rw (form-once text u k h).0 low))
   one_wrong_end a b c d (upper h low bad s e) (upper k lower' other t f) =
       let same = form-once text u h k in (omega (arith, s, t, ap length same.1), cc (e, f))
 

@@ -2,8 +2,8 @@
 use Rattle.npm_words.proofs.Common.{AllByRecursion, AreAlternatives, Bool, Comparison, HasAlternativesIn, IsAlternative, IsCutAtBars, IsLeft}
 use Rattle.npm_words.proofs.Common.{IsMalformedWord, IsUtf8, List, MAX_SAFE_INTEGER, NoValue, None, Option, Signed, Some, [], and_parts, ap}
 use Rattle.npm_words.proofs.Common.{append-nil, arith, capped_partial, common_steps, cut_bars, drop, drop_spaces, false, here, is_empty, is_valid}
-use Rattle.npm_words.proofs.Common.{length, length-append, list_all, marks_len, more_pieces, nat_tests, none, one_piece, refl, same_Some, signed_word}
-use Rattle.npm_words.proofs.{Common.{subst, sym, true, ℕ, ◌++◌, ◌+◌, ◌<◌, ◌∙◌, ◌∷◌, ◌≡◌, ◌≤◌}, Grammar.Printed.{capped-valid, table-invalid}}
+use Rattle.npm_words.proofs.Common.{length, length-append, list_all, marks_len, nat_tests, none, refl, signed_word}
+use Rattle.npm_words.proofs.{Common.{sym, true, ℕ, ◌++◌, ◌+◌, ◌<◌, ◌∙◌, ◌∷◌, ◌≡◌, ◌≤◌}, Grammar.Printed.{capped-valid, table-invalid}}
 use Rattle.npm_words.{proofs.Grammar.{Printed.valid-same, Words.{WordAt, signed-found, strict-kept, word-read}}, specs.MalformedWords.IsRightWord}
 use Rattle.npm_words.specs.{MalformedWords.on, RangeFlaws.{IsAlternativeText, bytes_of}, RangeText.{hyphen, next, words}, Table.{Partial, table}}
 use Rattle.semver_core.proofs.Dividing.{BarLemmas.{cut_bars-front, parts_after}, BarsDivide.{bars_divide, pieces-utf8}}
@@ -20,8 +20,7 @@ bytes-append [] p = omega arith
 bytes-append (q ∷ ps) p = omega (arith, bytes-append ps p)
 
 some-pieces : (text : List ℕ) (pieces : List (List ℕ)) → IsCutAtBars text pieces → is_empty pieces ≡ false
-some-pieces text pieces (one_piece t h) = refl
-some-pieces text pieces (more_pieces x rest others h k more) = refl
+some-pieces text pieces h = grind arith
 
 module _ (include : Bool) where
   abbrev Right : List ℕ → List ℕ → Type 0
@@ -49,9 +48,7 @@ module _ (include : Bool) where
     pub wrong-word : list_all (is_valid MAX_SAFE_INTEGER) (Row (capped_partial w.0.1)) ≡ false → NoValue (Right text)
     wrong-word bad = λ behind r.
         let x = word-read false include r.is.0 r.partial behind r.comparators r.is.2 (boundary-of behind r.is.3) in
-        let same : w.0 ≡ x.word = ap (λ (q : Signed × List ℕ). q.0) (same_Some _ _ (sym e ∙ ap (signed_word false) r.is.1 ∙ x.read)) in
-        let row : Row w.0.1 ≡ r.comparators = ap (λ (q : Signed). table include q.0 q.1 q.2) same ∙ x.same in
-        cc (r.valid, ap (list_all (is_valid MAX_SAFE_INTEGER)) row, capped-valid Row (λ p. table-invalid include w.0.0 p w.0.2) w.0.1, bad)
+        grind (arith, capped-valid Row (λ p. table-invalid include w.0.0 p w.0.2) w.0.1, x.read, x.same, r.valid)
 
     pub right-word : list_all (is_valid MAX_SAFE_INTEGER) (Row (capped_partial w.0.1)) ≡ true → Right text w.1
     right-word good =
@@ -84,9 +81,8 @@ module _ (include : Bool) where
   left-once l m text u (on t b x r s h) (on t' c y q v k) w z =
       let f = right-at _ _ u r in
       let g = right-at _ _ u q in
-      let behind : b ≡ c = ap (λ (q : Signed × List ℕ). q.1) (same_Some _ _ (sym f.1 ∙ g.1)) in
-      let rests : x ≡ y = sym (skips-of _ _ f.2.utf8 s) ∙ ap drop_spaces behind ∙ skips-of _ _ g.2.utf8 v in
-      left-once _ _ _ (skips-utf8 _ _ s f.2.utf8) h (subst (λ (n : List ℕ). Left m n) (sym rests) k) w z
+      let rests : x ≡ y = grind (arith, skips-of _ _ f.2.utf8 s, skips-of _ _ g.2.utf8 v) in
+      left-once _ _ _ (skips-utf8 _ _ s f.2.utf8) h (rw rests k) w z
 
   pub one_malformed_word : (text : List ℕ) (a b c d : ℕ) → IsUtf8 text → IsMalformedWord MAX_SAFE_INTEGER include text a b
       → IsMalformedWord MAX_SAFE_INTEGER include text c d → (a ≡ c) × (b ≡ d)

@@ -70,7 +70,7 @@ is_number limit ds = not (is_empty ds) && (not (has_leading_zero ds) && nat_le (
 divides : (p : ℕ → Bool) (cs : List ℕ) → (x : List ℕ) × (r : List ℕ) × (cs ≡ x ++ r) × (list_all p x ≡ true) × (begins p r ≡ false)
 divides p [] = ([], [], refl, refl, refl)
 divides p (c ∷ cs) = elim (cases_Bool (p c)) [
-  | inl passes ↦ (let d = divides p cs in (c ∷ d.0, d.1, ap (λ (t : List ℕ). c ∷ t) d.2, rw (passes, d.3) refl, d.4))
+  | inl passes ↦ (let d = divides p cs in (c ∷ d.0, d.1, grind arith, grind arith, d.4))
   | inr other ↦ ([], c ∷ cs, refl, refl, other)
 ]
 
@@ -151,17 +151,9 @@ module _ (limit : ℕ) where
           | inr apart ↦
               let digit : is_ascii_digit c ≡ false = grind (arith, nat_tests, other) in
               rw (other, apart, digit) (grind (arith, nat_tests), ended-read c x, refl, ended-read c x)
-          | inl dot ↦ rw (eqb-true c 46 dot) (elim (cases_Bool (begins_identifier x)) [
-            | inl more ↦ rw (more, e) (refl, rw more at later.0, refl, rw more at later.0)
-            | inr none ↦ rw none (refl, rw none at later.0, refl, rw none at later.0)
-          ])
+          | inl dot ↦ rw (eqb-true c 46 dot) (grind (arith, later.0, e))
         ]
       ]
-    where
-      either : (b : Bool) (s t : State) (f g e : Bool) → is_read s x ≡ (f && e) → is_read t x ≡ (g && e)
-          → ends_whole ((if b then Some s else Some t) >>? λ u. run limit u x) ≡ ((if b then f else g) && e)
-      either true s t f g e h k = h
-      either false s t f g e h k = k
 
   -- behind the numbers
   qualified : (x : List ℕ) → is_read (Number 0 0) x ≡ (is_strict_list (pre_release_with true x).0 && blank (build_front (pre_release_with true x).1).1)

@@ -194,10 +194,9 @@ module _ (limit : ℕ) (text : List ℕ) where
       let t = y.1.0 in
       let e = encodes_same (s.before ++ s.behind) (t.before ++ t.behind) (sym s.divided ∙ t.divided) in
       let same = same-divisions s.before s.behind t.before t.behind e (no-further s t) (no-further t s) in
-      let place : a ≡ b = s.place ∙ (ap (λ (c : List ℕ). length (encode_utf8_all c)) same.0 ∙ sym t.place) in
       let g = x.1.1 in
       let h = subst (λ (t : List ℕ). GoesOn limit t) (sym same.0) y.1.1 in
       let wrong : wrong_of g.may g.great s.before s.behind ≡ wrong_of y.1.1.may y.1.1.great t.before t.behind =
       λ i. wrong_of (λ c. same-test (g.may c) (y.1.1.may c) _ (g.may_is c) (h.may_is c) i)
       (λ c. same-test (g.great c) (y.1.1.great c) _ (g.great_is c) (h.great_is c) i) (same.0 i) (same.1 i) in
-      cc (place, x.1.2, wrong, y.1.2)
+      cc (s.place, t.place, same.0, x.1.2, wrong, y.1.2)

@@ -2,7 +2,7 @@
 use Rattle.npm_words.proofs.Common.{AreMarks, Bool, Id, IsIdentifiers, IsNumber, IsStrictBuild, IsStrictVersion, IsTrim, List, VersionValue, []}
 use Rattle.npm_words.proofs.Common.{all_weaker, and_parts, arith, common_steps, encode_ascii, encode_utf8, encode_utf8_all, false, is_ascii_digit}
 use Rattle.npm_words.proofs.Common.{is_identifier, is_identifier_char, is_mark, is_whitespace, join_with_byte, le-ltb, list_all, listed, lt-ltb}
-use Rattle.npm_words.proofs.Common.{middle_is_trim, nat_tests, no_build, not, pieces, plus, refl, subst, sym, true, ℕ, ◌++◌, ◌==◌, ◌||◌, ◌∙◌, ◌∷◌}
+use Rattle.npm_words.proofs.Common.{middle_is_trim, nat_tests, not, pieces, refl, subst, sym, true, ℕ, ◌++◌, ◌==◌, ◌||◌, ◌∙◌, ◌∷◌}
 use Rattle.npm_words.{proofs.{Common.{◌≡◌, ◌≤◌}, Grammar.VersionLaw.build-taken}, specs.{Builds.IsBuildText, Grammar.{IsPreRelease, IsWritten}}}
 use Rattle.{npm_words.specs.{Grammar.written, VersionText.{IsLooseVersion, IsVersionTextIn, IsWhole}}, semver_core.proofs.Reading.Bytes.all-join}
 use Rattle.semver_core.{proofs.Text.Ends.{is_spelled, nothing_listed}, specs.Text.Identifiers.is_listed}
@@ -24,8 +24,7 @@ identifier-other p h = all_weaker is_identifier_char is_other (λ b k. grind (ar
 
 joined-other : (ps : List (List ℕ)) → list_all is_identifier ps ≡ true → NoPlus (join_with_byte 46 ps)
 joined-other [] h = refl
-joined-other (p ∷ []) h = grind (arith, identifier-other p)
-joined-other (p ∷ q ∷ ps) h = grind (arith, common_steps, all-join, identifier-other p, joined-other (q ∷ ps))
+joined-other (p ∷ ps) h = grind (arith, common_steps, all-join, identifier-other p, joined-other ps)
 
 identifiers-other : (t : List ℕ) (l : List Id) → IsIdentifiers t l → NoPlus t
 identifiers-other t l h = rw (join_with_byte-slice_split 46 t) at (joined-other (pieces t) h.runs)
@@ -58,8 +57,7 @@ behind-front [] rest h = refl
 behind-front (c ∷ front) rest h = grind (arith, nat_tests, common_steps, behind-front front rest)
 
 build-spells : (b : List ℕ) (l : List Id) → IsStrictBuild b l → Spells (after_first (λ b. b == 43) b) l
-build-spells b l no_build = (nothing_listed, (build-taken [] [] [] no_build refl).1)
-build-spells b l (plus t list h) = (is_spelled t h.runs, (build-taken (43 ∷ t) [] list (plus t list h) refl).1)
+build-spells b l h = grind (arith, nothing_listed, is_spelled, build-taken b [] l h)
 
 -- in every reading, the marks and numbers of which have no `+`
 written-spells : (Marks : List ℕ → Type 0) (Number : List ℕ → ℕ → Type 0) (loose : Bool) (fits : List ℕ → Bool)
@@ -77,13 +75,6 @@ written-spells Marks Number loose fits marks numbers text v (written mark x y z 
       behind-front z _ (numbers z w.patch k),
       behind-front pre _ front,
     ) (build-spells build w.build q)
-
-strict-spells : (limit : ℕ) (text : List ℕ) (v : VersionValue) → IsStrictVersion limit text v → Spells (after_first (λ b. b == 43) text) v.build
-strict-spells limit text v h =
-    written-spells _ _ _ _ (λ m k. grind (arith, nat_tests, common_steps)) (λ x n k. number-other limit x n k.0) text v h
-
-loose-spells : (limit : ℕ) (text : List ℕ) (v : VersionValue) → IsLooseVersion limit text v → Spells (after_first (λ b. b == 43) text) v.build
-loose-spells limit text v h = written-spells _ _ _ _ marks-other (number-other limit) text v h
 
 -- ---- whole texts
 
@@ -105,5 +96,6 @@ build-text Is law text middle build v w trimmed e =
 
 pub build-written : (loose : Bool) (limit : ℕ) (text middle build : List ℕ) (v : VersionValue) → IsVersionTextIn loose limit text v
     → IsTrim text middle → build ≡ after_first (λ b. b == 43) middle → IsBuildText (IsVersionTextIn loose limit) text build
-build-written false limit = build-text (IsStrictVersion limit) (strict-spells limit)
-build-written true limit = build-text (IsLooseVersion limit) (loose-spells limit)
+build-written false limit = build-text (IsStrictVersion limit)
+    (written-spells _ _ _ _ (λ m k. grind (arith, nat_tests, common_steps)) (λ x n k. number-other limit x n k.0))
+build-written true limit = build-text (IsLooseVersion limit) (written-spells _ _ _ _ marks-other (number-other limit))

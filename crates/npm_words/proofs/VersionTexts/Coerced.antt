@@ -1,14 +1,14 @@
 -- The tuple that `coerce` looks for: the longest at a place with what it goes on with, the leftmost and the one that ends last; and its version.
-use Rattle.npm_words.proofs.Common.{Bool, Id, IfNone, IfSome, IsLastBefore, IsLeftmost, IsNumber, IsRightmost, IsRun, IsTuple, List, MAX_LENGTH}
-use Rattle.npm_words.proofs.Common.{MAX_SAFE_INTEGER, NoValue, None, Option, Some, VersionValue, [], ap, append-nil, append_assoc, arith, begins}
-use Rattle.npm_words.proofs.Common.{bind_some, cases_Bool, cases_lt, common_steps, drop, drop-append-add, drop_at, ends, eqb-true, false, get_or}
-use Rattle.npm_words.proofs.Common.{has_leading_zero, if◌then◌else◌, inl, inr, is_ascii_digit, length, length-append, length-prefix_len}
-use Rattle.npm_words.proofs.Common.{length-take-le, list_all, listed, nat_le, nat_tests, number_front, number_with, option_map, prefix_len, refl}
-use Rattle.npm_words.proofs.Common.{same_Some, subst, sym, take, take-append-drop, take_at, take_rest, true, tuple_len, tuple_release, ℕ, ◌++◌, ◌+◌}
+use Rattle.npm_words.proofs.Common.{Bool, Id, IfNone, IfSome, IsLastBefore, IsNumber, IsRun, IsTuple, List, MAX_LENGTH, MAX_SAFE_INTEGER, NoValue}
+use Rattle.npm_words.proofs.Common.{None, Option, Some, VersionValue, [], ap, append-nil, append_assoc, arith, begins, bind_some, cases_Bool}
+use Rattle.npm_words.proofs.Common.{cases_lt, common_steps, drop, drop-append-add, drop_at, ends, eqb-true, false, get_or, if◌then◌else◌, inl, inr}
+use Rattle.npm_words.proofs.Common.{is_ascii_digit, length, length-append, length-prefix_len, length-take-le, list_all, listed, nat_le, nat_tests}
+use Rattle.npm_words.proofs.Common.{number_front, number_with, option_map, prefix_len, refl, same_Some, subst, sym, take, take-append-drop, take_at}
+use Rattle.npm_words.proofs.Common.{take_rest, true, tuple_len, tuple_release, ℕ, ◌++◌, ◌+◌}
 use Rattle.npm_words.proofs.{Common.{◌-◌, ◌<◌, ◌==◌, ◌>>?◌, ◌∙◌, ◌∷◌, ◌≡◌, ◌≤◌}, Grammar.{Characters.last-byte, PartialLaw.digits-of}}
 use Rattle.npm_words.proofs.{Grammar.VersionLaw.{padded-same, strict-read}, VersionTexts.Lists.{marked-found, marked-read}}
 use Rattle.npm_words.specs.Coerced.{IsChosenFrom, IsCoerced, IsContinuedIn, IsMarkedList, IsNumberIn, IsRelease, absent, marked, one, three, two}
-use Rattle.npm_words.specs.{Coerced.unmarked, Internal.Tuples.{BeginsAfter, IsChosenPlace, IsFirstPlace, IsLastPlace, absent_len, build_len}}
+use Rattle.npm_words.specs.{Coerced.unmarked, Internal.Tuples.{BeginsAfter, IsChosenPlace, absent_len, build_len}}
 use Rattle.npm_words.specs.Internal.Tuples.{dotted_len, end_at, marked_len, pre_len, qualified, run_len, tuple_len_at, version_front}
 use Rattle.semver_core.proofs.{Reading.Numbers.{digits-taken, number-is, number-read, run-ends}, Text.Pieces.rest_at}
 use Rattle.std.{proofs.{Math.Seq.{drop-append_seam, take-append_seam}, lemmas.List.Sums.sum_by-append}, specs.List.count_by}
@@ -126,10 +126,7 @@ module _ {included : Bool} {text x y z : List ℕ} (is : IsContinuedIn included 
 
   -- what it goes on with is read, if its tuple is the longest there
   exact : tuple_len (is.tuple ++ behind) ≡ length is.tuple → end_at included text (length x) ≡ length x + length y
-  exact e =
-      let some : (length is.tuple == 0) ≡ false = grind (arith, nat_tests, spanned) in
-      let after : drop (length x + length is.tuple) text ≡ behind = rest_at text (length x) _ is.tuple behind there refl in
-      rw (len-at, e, some, after, pre.0, drop-append_seam, build.0) (omega (arith, size))
+  exact e = grind (arith, nat_tests, len-at, spanned, rest_at text (length x) _ is.tuple behind there refl, pre, build, drop-append_seam, size)
 
   -- what is read there reaches as far or farther, and no farther only if its tuple is the longest there
   reaches : (length x + length y ≤ end_at included text (length x))
@@ -140,10 +137,7 @@ module _ {included : Bool} {text x y z : List ℕ} (is : IsContinuedIn included 
         let dot : 0 < dotted_len behind = grind (arith, spanned.2) in
         let no_pre = unmarked-dot included true 45 is.pre (is.build ++ z) is.pre_ids refl is.pre_is dot in
         let no_build = unmarked-dot included false 43 is.build z is.build_ids refl is.build_is (rw no_pre at dot) in
-        let some : (tuple_len_at text (length x) == 0) ≡ false = grind (arith, nat_tests, len-at) in
-        let far : length x + length y < end_at included text (length x) =
-        rw some (omega (arith, less, size, ap length no_pre, ap length no_build, len-at)) in
-        (omega (arith, far), λ le. absurd (omega (arith, far, le)))
+        grind (arith, nat_tests, size, len-at)
   ]
 
   seen : (0 < length y) × (length text ≡ length x + (length y + length z)) × (0 < tuple_len_at text (length x))
@@ -204,14 +198,15 @@ Chosen = Bool → List ℕ → List ℕ → List ℕ → List ℕ → Type 0
 abbrev pub Chooses : Chosen → Bool → List ℕ → ℕ → Type 0
 Chooses C included text at = (p : Place included text at) × C included text p.front p.whole p.back
 
-pub leftmost-chosen : (included : Bool) (text : List ℕ) (at : ℕ) → IsFirstPlace text at → Chooses IsLeftmost included text at
-leftmost-chosen included text at h = let p = place included text at h.inside h.here in (
+pub last_begin : (included : Bool) (text : List ℕ) → IsLastBefore included text 0 0 0
+last_begin included text = grind (arith, nat_tests, common_steps)
+
+pub chosen : (included rtl : Bool) (text : List ℕ) (at : ℕ) → IsChosenPlace included rtl text at → Chooses (IsChosenFrom rtl) included text at
+chosen included false text at h = let p = place included text at h.inside h.here in (
   p,
   record { first = λ x y z is. grind (arith, seen is, h.first (length x)); longest = λ x y z is same. omega (arith, same, rw same at (reaches is).0, p.end) },
 )
-
-pub rightmost-chosen : (included : Bool) (text : List ℕ) (at : ℕ) → IsLastPlace included text at → Chooses IsRightmost included text at
-rightmost-chosen included text at h =
+chosen included true text at h =
     let some : 0 < end_at included text at = omega (arith, h.is.here, h.some) in
     let p = place included text at h.is.before (grind (arith, nat_tests)) in
     let end : length p.front + length p.whole ≡ h.end = sym p.end ∙ rw p.here (h.is.here h.some) in (
@@ -224,21 +219,6 @@ rightmost-chosen included text at h =
       },
     )
 
-pub last_begin : (included : Bool) (text : List ℕ) → IsLastBefore included text 0 0 0
-last_begin included text = grind (arith, nat_tests, common_steps)
-
-pub last_kept : (included : Bool) (text : List ℕ) (at start end there : ℕ) → there ≡ end_at included text at → there ≤ end
-    → IsLastBefore included text at start end → IsLastBefore included text (at + 1) start end
-last_kept included text at start end there e le h = grind arith
-
-pub last_taken : (included : Bool) (text : List ℕ) (at start end there : ℕ) → there ≡ end_at included text at → end < there
-    → IsLastBefore included text at start end → IsLastBefore included text (at + 1) at there
-last_taken included text at start end there e more h = grind arith
-
-pub chosen : (included rtl : Bool) (text : List ℕ) (at : ℕ) → IsChosenPlace included rtl text at → Chooses (IsChosenFrom rtl) included text at
-chosen included false text at h = leftmost-chosen included text at h
-chosen included true text at h = rightmost-chosen included text at h
-
 -- ---- the numbers of a tuple
 
 front-found : (limit : ℕ) (a rest : List ℕ) (n : ℕ) (r : List ℕ) → IsRun a → begins is_ascii_digit rest ≡ false
@@ -249,12 +229,7 @@ number-found : (zeros : Bool) (a rest : List ℕ) (n : ℕ) (r : List ℕ) → I
     → number_with zeros MAX_SAFE_INTEGER (a ++ rest) ≡ Some (n, r) → IsNumberIn zeros a n × (r ≡ rest)
 unfolding number_with
 number-found true a rest n r h stop e = front-found MAX_SAFE_INTEGER a rest n r h stop e
-number-found false a rest n r h stop e = elim (cases_Bool (has_leading_zero a)) [
-  | inl zero ↦ cc (rw (padded-same a rest h.each stop, zero) at e)
-  | inr bare ↦
-      let f = front-found MAX_SAFE_INTEGER a rest n r h stop (rw (padded-same a rest h.each stop, bare) at e) in
-      ((f.0, bare), f.1)
-]
+number-found false a rest n r h stop e = grind (arith, nat_tests, padded-same a rest h.each stop, front-found MAX_SAFE_INTEGER a rest n r h stop)
 
 number-reads : (zeros : Bool) (a rest : List ℕ) (n : ℕ) → IsNumberIn zeros a n → begins is_ascii_digit rest ≡ false
     → number_with zeros MAX_SAFE_INTEGER (a ++ rest) ≡ Some (n, rest)
@@ -291,13 +266,9 @@ release-read : (zeros : Bool) (t : List ℕ) (runs : List (List ℕ)) (v : Versi
 unfolding tuple_release
 release-read zeros t runs v (Npm.one a h) (Npm.one _ x p) = rw (rw (append-nil a) at (number-reads zeros a [] x p refl)) refl
 release-read zeros t runs v (Npm.two a b h k) (Npm.two _ _ x y p q) =
-    rw (number-reads zeros a (46 ∷ b) x p refl, rw (append-nil b) at (number-reads zeros b [] y q refl)) refl
+    grind (arith, number-reads zeros a (46 ∷ b) x p refl, rw (append-nil b) at (number-reads zeros b [] y q refl))
 release-read zeros t runs v (Npm.three a b c h k m) (Npm.three _ _ _ x y z p q r) =
-    rw (
-      number-reads zeros a (46 ∷ (b ++ (46 ∷ c))) x p refl,
-      number-reads zeros b (46 ∷ c) y q refl,
-      rw (append-nil c) at (number-reads zeros c [] z r refl),
-    ) refl
+    grind (arith, number-reads, rw (append-nil c) at (number-reads zeros c [] z r refl))
 
 -- ---- the version of a continued tuple
 
@@ -376,25 +347,19 @@ module _ (included zeros : Bool) (C : Chosen) (text : List ℕ) where
 beside : {included : Bool} {text x y z : List ℕ} → IsContinuedIn included text x y z → Place included text (length x)
 beside is = place _ _ _ (omega (arith, seen is)) (seen is).2
 
-pub leftmost-settled : IsSettled IsLeftmost
-leftmost-settled = record {
+pub settled : (rtl : Bool) → IsSettled (IsChosenFrom rtl)
+settled false = record {
   place = λ included text f g h x y z of c is d.
       let p = beside is in
       (omega (arith, c.first x y z is, d.first f g h of), omega (arith, p.here, rw p.here at p.end, d.longest p.front p.whole p.back p.is));
 }
-
-pub rightmost-settled : IsSettled IsRightmost
-rightmost-settled = record {
+settled true = record {
   place = λ included text f g h x y z of c is d.
       let p = beside is in (
         omega (arith, c.last x y z is, d.last f g h of, c.longest x y z is, d.longest f g h of, seen of, seen is),
         omega (arith, p.here, rw p.here at p.end, d.last p.front p.whole p.back p.is, seen is, seen p.is),
       );
 }
-
-pub settled : (rtl : Bool) → IsSettled (IsChosenFrom rtl)
-settled false = leftmost-settled
-settled true = rightmost-settled
 
 pub coerced-once : (included zeros : Bool) (C : Chosen) (text : List ℕ) (v w : VersionValue) → IsSettled C
     → IsCoerced included C (IsNumberIn zeros) text v → IsCoerced included C (IsNumberIn zeros) text w → v ≡ w

@@ -2,8 +2,8 @@
 use Rattle.npm_words.proofs.Common.{Bool, Id, List, [], all_weaker, and-true, and_parts, ap, arith, begins, begins_identifier, begins_padded}
 use Rattle.npm_words.proofs.Common.{cases_Bool, drop, eqb-true, false, get_or, has_leading_zero, identifier_of, inl, inr, is_ascii_digit}
 use Rattle.npm_words.proofs.Common.{is_identifier, is_identifier_char, length, length-drop, list_all, listed, map, nat_tests, not, onto_first}
-use Rattle.npm_words.proofs.Common.{or-false, or_parts, pieces, prefix_len, refl, suc, sym, take, take_rest, take_while, true, zero, ℕ, ◌&&◌, ◌++◌}
-use Rattle.npm_words.{proofs.{Common.{◌+◌, ◌-◌, ◌<◌, ◌==◌, ◌∙◌, ◌∷◌, ◌≡◌, ◌≤◌}, Grammar.PartialLaw.prefix-all}, specs.Coerced.IsMarkedList}
+use Rattle.npm_words.proofs.Common.{or_parts, pieces, prefix_len, refl, suc, sym, take, take_rest, take_while, true, zero, ℕ, ◌&&◌, ◌++◌}
+use Rattle.npm_words.{proofs.{Common.{◌+◌, ◌-◌, ◌<◌, ◌==◌, ◌∷◌, ◌≡◌, ◌≤◌}, Grammar.PartialLaw.prefix-all}, specs.Coerced.IsMarkedList}
 use Rattle.npm_words.specs.{Coerced.{begins_identifier_in, goes_on_in, is_identifier_in, marked, unmarked}, Internal.Tuples.{IsStretch, list_len_in}}
 use Rattle.{npm_words.specs.Internal.Tuples.marked_len, semver_core.proofs.Reading.{IdentifierLists.written-spelled, Qualifiers.byte-begins}}
 use Rattle.{semver_core.{proofs.Text.Ends.{is_spelled, nothing_listed, nothing_spelled}, specs.Text.Identifiers.is_listed}, std.proofs.Common.add-one}
@@ -38,13 +38,10 @@ zero-while (c ∷ []) h = grind (arith, nat_tests)
 zero-while (c ∷ d ∷ t) h = grind (arith, nat_tests, while-on is_identifier_char c (d ∷ t), while-on is_identifier_char d t)
 
 pub begins_plain : (strict : Bool) (t : List ℕ) → (strict && begins_padded t) ≡ false → begins_identifier_in strict t ≡ begins_identifier t
-begins_plain false t h = rw (is-id t) (and-true (begins_identifier t))
-begins_plain true t h = grind (arith, cases_Bool, is-id, zero-while, and-true)
+begins_plain strict t h = grind (arith, cases_Bool, is-id, zero-while, and-true)
 
 padded-begins : (t : List ℕ) → begins_padded t ≡ true → begins_identifier t ≡ true
-padded-begins [] h = cc h
-padded-begins (c ∷ []) h = cc h
-padded-begins (c ∷ d ∷ t) h = grind (arith, nat_tests)
+padded-begins t h = grind (arith, nat_tests)
 
 -- a number with a leading zero goes on, behind its digits, as no number
 pub begins_long : (t : List ℕ) → begins_padded t ≡ true → begins_identifier_in true t ≡ begins_identifier (drop (prefix_len is_ascii_digit t) t)
@@ -80,16 +77,14 @@ abbrev later : List (List ℕ) → List (List ℕ)
 later ps = drop 1 ps
 
 all-pieces : (p : List ℕ → Bool) (ps : List (List ℕ)) → p (first_piece ps) ≡ true → list_all p (later ps) ≡ true → list_all p ps ≡ true
-all-pieces p [] h k = refl
-all-pieces p (x ∷ xs) h k = rw h k
+all-pieces p ps h k = grind arith
 
 on-first : (c : ℕ) (ps : List (List ℕ)) → (first_piece (onto_first c ps) ≡ c ∷ first_piece ps) × (later (onto_first c ps) ≡ later ps)
 on-first c [] = (refl, refl)
 on-first c (p ∷ ps) = (refl, refl)
 
 quiet-begins : (strict : Bool) (more : List ℕ) → goes_on_in strict more ≡ false → begins_identifier more ≡ false
-quiet-begins strict [] h = refl
-quiet-begins strict (c ∷ more) h = (or_parts (is_identifier_char c) (c == 46 && begins_identifier_in strict more) h).0
+quiet-begins strict more h = grind (arith, or_parts)
 
 -- the pieces of the longest list at the front: the first is what the text begins with, and the others are identifiers
 taken : (strict : Bool) (t : List ℕ) → (first_piece (pieces (take (list_len_in strict t) t)) ≡ take_while is_identifier_char t)
@@ -99,18 +94,9 @@ taken strict [] = (refl, refl)
 taken strict (c ∷ t) = elim (cases_Bool (goes_on_in strict (c ∷ t))) [
   | inr stop ↦ rw stop (sym (while-off is_identifier_char (c ∷ t) (quiet-begins strict (c ∷ t) stop)), refl)
   | inl more ↦
-      let r = taken strict t in
-      let z = take (list_len_in strict t) t in
       let e : 1 + list_len_in strict t ≡ suc (list_len_in strict t) = omega arith in
-      rw (more, e) (elim (cases_Bool (c == 46)) [
-        | inl dot ↦
-            let is : begins_identifier_in strict t ≡ true = rw (eqb-true c 46 dot) at more in
-            rw (eqb-true c 46 dot) (refl, all-pieces (is_identifier_in strict) (pieces z) (rw r.0 is) r.1)
-        | inr other ↦
-            let on : is_identifier_char c ≡ true = sym (or-false (is_identifier_char c)) ∙ (rw other at more) in
-            let onto = on-first c (pieces z) in
-            rw other (onto.0 ∙ ap (λ (r : List ℕ). c ∷ r) r.0 ∙ sym (while-on is_identifier_char c t on), rw onto.1 r.1)
-      ])
+      let onto = on-first c (pieces (take (list_len_in strict t) t)) in
+      rw (more, e) (grind (arith, nat_tests, eqb-true, taken strict t, onto, while-on is_identifier_char c t, all-pieces))
 ]
 
 list-taken : (strict : Bool) (t : List ℕ) → begins_identifier_in strict t ≡ true
@@ -153,20 +139,9 @@ are-read : (strict : Bool) (t more : List ℕ) → list_all is_identifier_char (
     → (list_len_in strict (t ++ more) ≡ length t) × (take_while is_identifier_char (t ++ more) ≡ first_piece (pieces t))
 unfolding list_len_in
 are-read strict [] more h k stop = (len_stop strict more stop, while-off is_identifier_char more (quiet-begins strict more stop))
-are-read strict (c ∷ t) more h k stop = elim (cases_Bool (c == 46)) [
-  | inl dot ↦
-      let all = parts strict (pieces t) (pieces-some t) (rw dot at k) in
-      let r = are-read strict t more all.1 all.2 stop in
-      let begins : begins_identifier_in strict (t ++ more) ≡ true = rw r.1 all.0 in
-      rw (eqb-true c 46 dot, begins, r.0) (omega arith, refl)
-  | inr other ↦
-      let onto = on-first c (pieces t) in
-      let both = and_parts (is_identifier_char c) (list_all is_identifier_char (first_piece (pieces t))) (rw (other, onto.0) at h) in
-      let r = are-read strict t more both.1 (rw (other, onto.1) at k) stop in (
-        rw (both.0, r.0) (omega arith),
-        rw other (while-on is_identifier_char c (t ++ more) both.0 ∙ ap (λ (p : List ℕ). c ∷ p) r.1 ∙ sym onto.0),
-      )
-]
+are-read strict (c ∷ t) more h k stop =
+    let all = parts strict (pieces t) (pieces-some t) in
+    grind (arith, nat_tests, and_parts, eqb-true, on-first, while-on is_identifier_char c (t ++ more), all, are-read strict t more)
 
 -- ---- a list behind its mark
 
@@ -201,10 +176,8 @@ pub marked-read : (included strict : Bool) (mark : ℕ) (p more : List ℕ) (l :
 marked-read included strict mark p more l (unmarked rest h) = (rw h refl, nothing_spelled)
 marked-read included strict mark p more l (marked t rest inc all stop) =
     let is = parts strict (pieces t) (pieces-some t) all in
-    let r = are-read strict t rest is.1 is.2 stop in
-    let begins : begins_identifier_in strict (t ++ rest) ≡ true = rw r.1 is.0 in
-    let same : (mark == mark) ≡ true = grind (arith, nat_tests) in (
-      rw (inc, same, begins, r.0) (omega arith),
+    (
+      grind (arith, nat_tests, is, are-read strict t rest is.1 is.2 stop),
       written-spelled t (map identifier_of (pieces t)) (record { runs = plain-ids strict (pieces t) all; spelled = refl }),
     )
 

@@ -1,12 +1,12 @@
 -- Version texts, strict or loose: the function that reads them finds exactly what the statement has.
 use Rattle.npm_words.proofs.Common.{AreMarks, Bool, IsClean, IsNumber, IsPieceAt, IsStrictBuild, IsStrictNumber, IsTrim, IsUtf8, IsVersionText}
 use Rattle.npm_words.proofs.Common.{IsWholeNumber, List, MAX_LENGTH, NoPieceAt, NoValue, None, Some, VersionValue, [], after_byte, and_parts, ap}
-use Rattle.npm_words.proofs.Common.{append-nil, arith, begins, begins_byte, bind_some, build_front, cases_Bool, chars, common_steps, drop, drop_at}
+use Rattle.npm_words.proofs.Common.{append-nil, arith, begins, begins_byte, bind_some, cond_some, build_front, cases_Bool, chars, common_steps, drop, drop_at}
 use Rattle.npm_words.proofs.Common.{encode_utf8_all, false, inl, inr, is_ascii_digit, is_empty, is_mark, length, list_all, middle_is_trim, nat_tests}
 use Rattle.npm_words.proofs.Common.{number_front, number_of, number_with, or_right, patch_front, pre_front, prefix_len, qualified_version, refl}
 use Rattle.npm_words.proofs.Common.{same_Some, subst, sym, take, take-append-drop, take_at, take_rest, true, whole_version, ℕ, ◌&&◌, ◌++◌, ◌-◌, ◌<◌}
 use Rattle.npm_words.proofs.{Common.{◌>>?◌, ◌∙◌, ◌∷◌, ◌≡◌, ◌≤◌, ◌⊎◌}, Grammar.{Hyphens.{ends-found, ends-read}, PartialLaw.{digits-of, patch-exact}}}
-use Rattle.npm_words.proofs.Grammar.VersionLaw.{At, Ends, Follows, build-ends, build-taken, ended-found, pre-follows, pre-found, pre-taken}
+use Rattle.npm_words.proofs.Grammar.VersionLaw.{At, Follows, build-ends, build-taken, ended-found, pre-follows, pre-found, pre-taken}
 use Rattle.npm_words.{proofs.Grammar.VersionLaw.{strict-found, strict-read}, specs.Grammar.{IsPreRelease, IsWritten, written}}
 use Rattle.npm_words.specs.{Internal.Versions.{fits, patch_len, unmarked}, VersionText.IsVersionTextIn}
 use Rattle.semver_core.proofs.Reading.{Boundaries.byte-is, Bytes.{component-solid, solid-dark}, Numbers.{digits-taken, front_none, front_some}}
@@ -100,14 +100,10 @@ whole-found loose limit text v u h =
     let pre = pre_front loose false c.0.1 in
     let split : text ≡ m.0 ++ (x.piece ++ 46 ∷ (y.piece ++ 46 ∷ (z.piece ++ c.0.1))) =
     cc (m.1, x.split, byte-is 46 a.0.1 s.0 s.1, y.split, byte-is 46 b.0.1 t.0 t.1, z.split) in
-    elim (cases_Bool (is_empty (build_front pre.1).1 && fits loose pre.0)) [
-      | inr other ↦ cc (rw other at c.2)
-      | inl whole ↦
-          let both = and_parts (is_empty (build_front pre.1).1) (fits loose pre.0) whole in
-          subst (λ (t : List ℕ). Version loose limit t v) (sym split) (subst (Version loose limit _) (same_Some _ _ (rw whole at c.2))
-          (ended-found _ _ loose (fits loose) m.0 x.piece y.piece z.piece c.0.1 _ _ _ pre m.2 x.is y.is z.is
-          (pre-found loose false (fits loose) c.0.1 both.1) both.0))
-    ]
+    let d = cond_some (is_empty (build_front pre.1).1 && fits loose pre.0) _ v c.2 in
+    let both = and_parts (is_empty (build_front pre.1).1) (fits loose pre.0) d.0 in
+    rw split (subst (Version loose limit _) d.1 (ended-found _ _ loose (fits loose) m.0 x.piece y.piece z.piece c.0.1 _ _ _ pre m.2 x.is y.is z.is
+    (pre-found loose false (fits loose) c.0.1 both.1) both.0))
 
 -- ---- what is written is read
 
@@ -122,9 +118,7 @@ patch-read : (loose : Bool) (limit : ℕ) (digits rest : List ℕ) (n : ℕ) →
 unfolding patch_front
 patch-read false limit digits rest n h follows = strict-read limit digits rest n h (grind (arith, nat_tests))
 patch-read true limit digits rest n h follows =
-    let is : IsNumber limit digits n = h in
-    let len : patch_len (digits ++ rest) ≡ length digits = patch-exact true digits rest is.each follows in
-    rw (len, take_at digits rest (length digits) refl, drop_at digits rest (length digits) refl, number-of limit digits n is) refl
+    let is : IsNumber limit digits n = h in grind (arith, patch-exact true digits rest is.each follows, take_at, drop_at, number-of limit digits n is)
 
 marks-read : (loose : Bool) (mark digits rest : List ℕ) → Marks loose mark → 0 < length digits → list_all is_ascii_digit digits ≡ true
     → unmarked loose (mark ++ (digits ++ rest)) ≡ digits ++ rest
@@ -133,16 +127,13 @@ marks-read false mark (c ∷ digits) rest m some each = grind (arith, nat_tests,
 marks-read true mark (c ∷ digits) rest m some each = grind (arith, nat_tests, common_steps, and_parts, ends-read, solid-dark, component-solid, or_right)
 
 fits-none : (loose : Bool) → fits loose [] ≡ true
-fits-none false = refl
-fits-none true = refl
+fits-none loose = grind arith
 
 qualified-read : (loose : Bool) (p b : List ℕ) (v : VersionValue) → IsPreRelease loose false (fits loose) p v.pre_release → IsStrictBuild b v.build
     → qualified_version loose v.major v.minor v.patch (p ++ b) ≡ Some v
 unfolding qualified_version
 qualified-read loose p b v h k =
-    let e : Ends b = rw append-nil at (build-ends b [] v.build k refl) in
-    let t = build-taken b [] v.build k refl in
-    let f = pre-taken loose false (fits loose) p b v.pre_release (fits-none loose) h e in grind (arith, nat_tests, common_steps, append-nil)
+    grind (arith, nat_tests, common_steps, append-nil, build-ends b [] v.build k, build-taken b [] v.build k, pre-taken, fits-none loose)
 
 whole-read : (loose : Bool) (limit : ℕ) (text : List ℕ) (v : VersionValue) → Version loose limit text v → whole_version loose limit text ≡ Some v
 unfolding whole_version
@@ -150,12 +141,7 @@ whole-read loose limit text v (written mark x y z pre build w m i j k p q) =
     let last = pre ++ build in
     let follows = pre-follows loose (fits loose) pre build w.pre_release p (rw append-nil at (build-ends build [] w.build q refl)) in
     let d = digits-all loose limit x w.major i in
-    rw (
-      marks-read loose mark x (46 ∷ (y ++ 46 ∷ (z ++ last))) m d.some d.each,
-      front-read loose limit x (46 ∷ (y ++ 46 ∷ (z ++ last))) w.major i refl,
-      front-read loose limit y (46 ∷ (z ++ last)) w.minor j refl,
-      patch-read loose limit z last w.patch k follows,
-    ) (qualified-read loose pre build w p q)
+    grind (arith, marks-read, front-read, patch-read, qualified-read, d.some, d.each, follows)
 
 -- ---- whole texts
 

@@ -3,23 +3,19 @@ use Rattle.npm_reading.proofs.common.read_common.Goals as goal
 
 pub returns-then-is_empty-clause-read : goal.returns-then-is_empty-clause-read
 returns-then-is_empty-clause-read c = λ _.
-    loop-ends c.args.include c.args.text.now c.parts.found.items c.push_part.new.found.items c.parts.rest.now c.in-Some.behind.now
-    c.parts.invariant (rw (ap rest_view c.in-Some.is) at c.in_ok-behind.ensures.added) (grind arith)
+    loop-ends _ _ _ _ _ _ c.parts.invariant (rw (ap rest_view c.in-Some.is) at c.in_ok-behind.ensures.added) (grind arith)
 
 pub parts-smaller : goal.parts-smaller
 parts-smaller c =
-    (loop-goes c.args.include c.args.text.now c.parts.found.items c.push_part.new.found.items c.parts.rest.now c.in-Some.behind.now
-    c.in-Some-after_bars.next.now c.parts.invariant (rw (ap rest_view c.in-Some.is) at c.in_ok-behind.ensures.added)
+    (loop-goes _ _ _ _ _ _ _ c.parts.invariant (rw (ap rest_view c.in-Some.is) at c.in_ok-behind.ensures.added)
     (sym c.after_bars.ensures ∙ ap rest_view c.in-Some-after_bars.is)).2
 
 pub parts-preserved : goal.parts-preserved
 parts-preserved c = rw c.reserve_for.ensures.same
-    (loop-goes c.args.include c.args.text.now c.parts.found.items c.push_part.new.found.items c.parts.rest.now c.in-Some.behind.now
-    c.in-Some-after_bars.next.now c.parts.invariant (rw (ap rest_view c.in-Some.is) at c.in_ok-behind.ensures.added)
+    (loop-goes _ _ _ _ _ _ _ c.parts.invariant (rw (ap rest_view c.in-Some.is) at c.in_ok-behind.ensures.added)
     (sym c.after_bars.ensures ∙ ap rest_view c.in-Some-after_bars.is)).0
 
 pub returns-in_err-reserve_for-clause-memory : goal.returns-in_err-reserve_for-clause-memory
 returns-in_err-reserve_for-clause-memory c = on_err c.from_residual-in_err-reserve_for.result
-    (loop-goes c.args.include c.args.text.now c.parts.found.items c.push_part.new.found.items c.parts.rest.now c.in-Some.behind.now
-    c.in-Some-after_bars.next.now c.parts.invariant (rw (ap rest_view c.in-Some.is) at c.in_ok-behind.ensures.added)
+    (loop-goes _ _ _ _ _ _ _ c.parts.invariant (rw (ap rest_view c.in-Some.is) at c.in_ok-behind.ensures.added)
     (sym c.after_bars.ensures ∙ ap rest_view c.in-Some-after_bars.is)).1

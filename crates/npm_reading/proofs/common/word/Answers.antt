@@ -10,6 +10,5 @@ row_of_zeros-requires c = capped-normal _ _ _ c.in_ok-partial.ensures
 
 pub returns : goal.returns
 returns c =
-    word-capped c.sign_front-sign.result.1.now c.args.include c.args.text.now (npm_sign_view c.sign_front-sign.result.0) c.sign_front-sign.ensures
-    c.in_ok-bounds.bounds c.zeros.result (npm_partial_view c.in_ok-partial.partial) c.in_ok-partial.rest.now c.in_ok-partial.ensures c.zeros.ensures
-    c.in_ok-bounds.ensures
+    word-capped _ _ _ (npm_sign_view c.sign_front-sign.result.0) c.sign_front-sign.ensures _ _ (npm_partial_view c.in_ok-partial.partial) _
+    c.in_ok-partial.ensures c.zeros.ensures c.in_ok-bounds.ensures

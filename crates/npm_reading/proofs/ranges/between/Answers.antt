@@ -1,14 +1,13 @@
-use Rattle.{nodejs_semver.proofs.Common.{sym, ◌∙◌}, npm_reading.proofs.Grammar.RangeReads.{lower-none, lower-wrong, upper-found, upper-wrong}}
+use Rattle.nodejs_semver.proofs.Common.{arith, nat_tests, sym, ◌∙◌}
+use Rattle.npm_reading.proofs.Grammar.RangeReads.{lower-none, upper-found}
 use Rattle.npm_words.proofs.Common.{end_view, lower_of, upper_of}
 use Rattle.npm_reading.proofs.ranges.between.Goals as goal
 
 pub returns-then-not-is_right : goal.returns-then-not-is_right
-returns-then-not-is_right c =
-    lower-wrong c.args.loose c.args.include (end_view c.args.lower.now) (end_view c.args.upper.now) (sym c.is_right.ensures ∙ c.if-not-is_right.true)
+returns-then-not-is_right c = grind (arith, nat_tests)
 
 pub returns-then-not-is_right-2 : goal.returns-then-not-is_right-2
-returns-then-not-is_right-2 c =
-    upper-wrong c.args.loose c.args.include (end_view c.args.lower.now) (end_view c.args.upper.now) (sym c.is_right-2.ensures ∙ c.if-not-is_right-2.true)
+returns-then-not-is_right-2 c = grind (arith, nat_tests)
 
 pub returns-in_err-from : goal.returns-in_err-from
 returns-in_err-from c =

@@ -1,12 +1,12 @@
 use Rattle.nodejs_semver.proofs.Common.{Err, MemoryOnlyIf, length, parts, rest_view, rules, ⊤, ◌<◌}
-use Rattle.npm_reading.proofs.Grammar.RangeReads.{all-spans, memory-pieces, none-read, range-read, ranged_range, read-all, read-nothing, read-part, read-refused}
-use Rattle.npm_reading.proofs.Grammar.RangeReads.{refused-none}
+use Rattle.npm_reading.proofs.Grammar.RangeReads.{all-read, all-spans, memory-pieces, none-read, range-read, ranged_range, read-all, read-part}
+use Rattle.npm_reading.proofs.Grammar.RangeReads.{read-refused, refused-weaker}
 use Rattle.npm_reading.proofs.ranges.fill_any.Goals as goal
 
 pub returns-in_err-is_some-clause-refused : goal.returns-in_err-is_some-clause-refused
 returns-in_err-is_some-clause-refused c =
     let e = c.from_residual.ensures in
-    let h = refused-none c.args.loose {A = ⊤} (Err c.in_err-is_some.field-0.0) c.args.include c.args.text.now c.utf8.text
+    let h = refused-weaker {A = ⊤} (Err c.in_err-is_some.field-0.0) (none-read c.args.loose c.args.include c.args.text.now c.utf8.text)
     (read-refused c.args.loose {A = ⊤} (Err c.in_err-is_some.field-0.0) c.args.include c.args.text.now c.parts.is_some c.parts.found.items c.in-Some.text.now
     c.next_part.result.0.now (rest_view c.next_part.result.1) (rw c.in-Some.is at c.parts.invariant) c.next_part.ensures.value
     c.in_err-is_some.ensures.refused) in
@@ -34,5 +34,5 @@ returns-then-is_some-clause-range c =
 
 pub returns-else-is_some-clause-refused : goal.returns-else-is_some-clause-refused
 returns-else-is_some-clause-refused c =
-    let none = read-nothing _ _ _ _ (rw (c.in_default.is, c.if-is_some.false) at c.parts.invariant) in
+    let none = all-read _ _ _ _ _ (rw (c.in_default.is, c.if-is_some.false) at c.parts.invariant) in
     none-read c.args.loose c.args.include c.args.text.now c.utf8.text none

@@ -1,5 +1,5 @@
-use Rattle.npm_words.proofs.{Common.{ap, arith, caret_from, from, nat_lt, npm_partial_view, sym, true, within, ℕ, ◌∙◌, ◌≡◌}, Grammar.{Printed.from_valid, Rows.{caret_valid, noted_valid, part_caret, whole_caret}}}
-use Rattle.npm_words.specs.Internal.{Meaning.is_part, Parts.noted}
+use Rattle.npm_words.proofs.Common.{ap, arith, caret_from, from, nat_lt, npm_partial_view, sym, true, within, ℕ, ◌∙◌}
+use Rattle.npm_words.proofs.Grammar.{Printed.from_valid, Rows.{caret_valid, noted_valid, part_caret, whole_caret}}
 use Rattle.npm_words.proofs.comparators.caret.Goals as goal
 
 pub returns-in-Major : goal.returns-in-Major
@@ -7,10 +7,8 @@ returns-in-Major c text e =
     let include = c.args.include in
     let n = c.first.result in
     let padded = nat_lt c.args.zeros c.zeros-in-Major.result in
-    let part : is_part (npm_partial_view c.args.partial.now) ≡ true = grind arith in
-    part_caret include padded text (npm_partial_view c.args.partial.now) n c.next_changed-in-Major.result c.until-in-Major.result part
-    c.first.ensures c.args.zeros e (ap (λ (n : ℕ). nat_lt c.args.zeros n) c.zeros-in-Major.ensures) c.next_changed-in-Major.ensures
-    (c.until-in-Major.ensures include (noted padded (from include n))
+    part_caret include padded text (npm_partial_view c.args.partial.now) n _ _ (grind arith) c.first.ensures _ e
+    (ap (λ (n : ℕ). nat_lt c.args.zeros n) c.zeros-in-Major.ensures) c.next_changed-in-Major.ensures (c.until-in-Major.ensures include _
     (noted_valid padded (from include n) ∙ from_valid include n ∙ ap within c.first.ensures ∙ c.requires.within) c.from_numbers-lower.ensures)
 
 pub returns-then-prints_short : goal.returns-then-prints_short

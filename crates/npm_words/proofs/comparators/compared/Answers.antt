@@ -1,5 +1,5 @@
-use Rattle.npm_words.proofs.{Common.{ap, arith, first, from, npm_partial_view, refl, true, within, ◌∙◌, ◌≡◌}, Grammar.{Printed.from_valid, Rows.noted_valid}}
-use Rattle.npm_words.{proofs.Grammar.Rows.{part_at_most, part_below, part_equal}, specs.Internal.{Meaning.is_part, Parts.noted}}
+use Rattle.npm_words.proofs.{Common.{ap, arith, first, from, npm_partial_view, refl, within, ◌∙◌}, Grammar.{Printed.from_valid, Rows.noted_valid}}
+use Rattle.npm_words.proofs.Grammar.Rows.{part_at_most, part_below, part_equal}
 use Rattle.npm_words.proofs.comparators.compared.Goals as goal
 
 pub returns-in-Above : goal.returns-in-Above
@@ -11,23 +11,17 @@ returns-in-Below c k = rw (c.in-Wildcard.is, c.in-Below.is) (c.under-in-Below.en
 pub returns-in-Equal : goal.returns-in-Equal
 returns-in-Equal c k =
     let include = c.args.include in
-    let padded = c.args.padded in
     let n = c.first.result in
-    let part : is_part (npm_partial_view c.args.partial.now) ≡ true = grind arith in
-    rw c.in-Equal.is (part_equal include padded c.args.text.now (npm_partial_view c.args.partial.now) n c.next.result c.until.result part
-    c.first.ensures k c.next.ensures (c.until.ensures include (noted padded (from include n))
-    (noted_valid padded (from include n) ∙ from_valid include n ∙ ap within c.first.ensures ∙ c.requires.within) c.from_numbers-lower.ensures))
+    rw c.in-Equal.is (part_equal include c.args.padded c.args.text.now (npm_partial_view c.args.partial.now) n _ _ (grind arith) c.first.ensures k
+    c.next.ensures (c.until.ensures include _
+    (noted_valid c.args.padded (from include n) ∙ from_valid include n ∙ ap within c.first.ensures ∙ c.requires.within) c.from_numbers-lower.ensures))
 
 pub returns-in-Below-comparator : goal.returns-in-Below-comparator
 returns-in-Below-comparator c k =
-    let n = c.first-in-Below-comparator.result in
-    let part : is_part (npm_partial_view c.args.partial.now) ≡ true = grind arith in
-    rw c.in-Below-comparator.is (part_below c.args.include c.args.padded c.args.text.now (npm_partial_view c.args.partial.now) n n c.under-in-Below-comparator.result
-    part c.first-in-Below-comparator.ensures (c.under-in-Below-comparator.ensures c.args.include))
+    rw c.in-Below-comparator.is (part_below c.args.include c.args.padded c.args.text.now (npm_partial_view c.args.partial.now) _
+    c.first-in-Below-comparator.result _ (grind arith) c.first-in-Below-comparator.ensures (c.under-in-Below-comparator.ensures c.args.include))
 
 pub returns-in-AtMost : goal.returns-in-AtMost
 returns-in-AtMost c k =
-    let p = npm_partial_view c.args.partial.now in
-    let part : is_part p ≡ true = grind arith in
-    rw c.in-AtMost.is (part_at_most c.args.include c.args.padded c.args.text.now p (first p) c.next-in-AtMost.result c.under-in-AtMost.result
-    part refl c.next-in-AtMost.ensures (c.under-in-AtMost.ensures c.args.include))
+    rw c.in-AtMost.is (part_at_most c.args.include c.args.padded c.args.text.now (npm_partial_view c.args.partial.now) _ _ _ (grind arith) refl
+    c.next-in-AtMost.ensures (c.under-in-AtMost.ensures c.args.include))

@@ -1,4 +1,4 @@
-use Rattle.npm_words.proofs.{Grammar.Printed.reread, VersionTexts.Coerced.{coerced-once, leftmost-settled, rightmost-settled}}
+use Rattle.npm_words.proofs.{Common.{false, true}, Grammar.Printed.reread, VersionTexts.Coerced.{coerced-once, settled}}
 use Rattle.npm_words.proofs.VersionTexts.Versions.{version_once}
 use Rattle.npm_words.proofs.Grammar.AlternativeLaw as law
 use Rattle.npm_words.proofs.laws.once.npm_reads_once.Goals as goal
@@ -8,6 +8,6 @@ returns c = record {
   version = version_once;
   printed = reread;
   alternatives = law.alternatives_once;
-  leftmost = λ included loose text v w. coerced-once included loose _ text v w leftmost-settled;
-  rightmost = λ included loose text v w. coerced-once included loose _ text v w rightmost-settled;
+  leftmost = λ included loose text v w. coerced-once included loose _ text v w (settled false);
+  rightmost = λ included loose text v w. coerced-once included loose _ text v w (settled true);
 }
