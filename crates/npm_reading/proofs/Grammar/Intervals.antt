@@ -139,5 +139,5 @@ pub ranged-found : (include : Bool) (alternatives : List (List Comparison)) (fou
 ranged-found include alternatives found h = rw (
   h.are,
   any-intervals include is_unbounded (λ cs. not (list_any (counts include) cs))
-  (λ cs. shared_open (counted include cs) ∙ counted-none include cs) alternatives,
+      (λ cs. shared_open (counted include cs) ∙ counted-none include cs) alternatives,
 ) refl

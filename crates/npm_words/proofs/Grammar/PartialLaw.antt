@@ -7,7 +7,7 @@ use Rattle.npm_words.proofs.Common.{dotted_place, drop, drop-append-add, drop_at
 use Rattle.npm_words.proofs.Common.{is_ascii_digit, is_boundary, is_empty, is_none, is_spelled, length, length-append, length-prefix_len, list_all}
 use Rattle.npm_words.proofs.Common.{listed, may_stand, nat_le, nat_lt, nat_tests, not, number_front, number_of, number_with, one, partial_of}
 use Rattle.npm_words.proofs.Common.{patch_place, place_front, pre_front, pre_release_with, prefix_len, qualified_partial, refl, run_place, same_Some}
-use Rattle.npm_words.proofs.Common.{subst, suc, sym, take, take-append-drop, take_at, take_rest, take_while, three, true, two, zero, ℕ, ◌&&◌, ◌++◌}
+use Rattle.npm_words.proofs.Common.{subst, suc, take, take-append-drop, take_at, take_rest, take_while, three, true, two, zero, ℕ, ◌&&◌, ◌++◌}
 use Rattle.npm_words.proofs.{Common.{◌+◌, ◌-◌, ◌<◌, ◌>>?◌, ◌||◌, ◌∙◌, ◌∷◌, ◌≡◌, ◌≤◌}, Grammar.{Runs.run-many, VersionLaw.{At, Ends, Follows}}}
 use Rattle.npm_words.proofs.Grammar.VersionLaw.{build-ends, build-found, build-taken, dotted-found, number-short, padded-same, pre-follows, pre-found}
 use Rattle.npm_words.{proofs.Grammar.VersionLaw.{pre-taken, strict_is}, specs.{Grammar.IsPreRelease, Internal.Words.{are_short_builds, is_over}}}

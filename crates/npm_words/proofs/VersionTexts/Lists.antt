@@ -175,8 +175,7 @@ pub marked-read : (included strict : Bool) (mark : ℕ) (p more : List ℕ) (l :
     → (marked_len included strict mark (p ++ more) ≡ length p) × (listed (drop 1 p) ≡ l)
 marked-read included strict mark p more l (unmarked rest h) = (rw h refl, nothing_spelled)
 marked-read included strict mark p more l (marked t rest inc all stop) =
-    let is = parts strict (pieces t) (pieces-some t) all in
-    (
+    let is = parts strict (pieces t) (pieces-some t) all in (
       grind (arith, nat_tests, is, are-read strict t rest is.1 is.2 stop),
       written-spelled t (map identifier_of (pieces t)) (record { runs = plain-ids strict (pieces t) all; spelled = refl }),
     )
