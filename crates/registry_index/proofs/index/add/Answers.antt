@@ -1,5 +1,13 @@
-use Rattle.std.proofs.Common.{rules}
+use Rattle.std.proofs.Common.{Err, Ok, Result, rules}
+use Rattle.std.proofs.lemmas.Bool.{false≢true}
+use Rattle.std.specs.Prelude.{IfOk}
+use Rattle.std.specs.Result.{IsErr}
 use Rattle.registry_index.proofs.index.add.Goals as goal
+
+-- nothing is said of a result that is not there
+no_ok : {A E : Type 0} (r : Result A E) (P : A → Type 0) → IsErr r → IfOk r P
+no_ok (Ok a) P failed = absurd (false≢true failed)
+no_ok (Err e) P failed = tt
 
 pub returns-clause-row : goal.returns-clause-row
 returns-clause-row g c = λ clean inside. (
@@ -12,7 +20,13 @@ pub returns-clause-refused : goal.returns-clause-refused
 returns-clause-refused g c = tt
 
 pub returns-in_err-line : goal.returns-in_err-line
-returns-in_err-line g c = record { row = λ clean inside. search rules; refused = search rules }
+returns-in_err-line g c = record {
+  row = λ clean inside. no_ok c.from_residual.result _ c.from_residual.ensures.0;
+  refused = search rules;
+}
 
 pub returns-in_err-execute : goal.returns-in_err-execute
-returns-in_err-execute g c = record { row = λ clean inside. search rules; refused = search rules }
+returns-in_err-execute g c = record {
+  row = λ clean inside. no_ok c.from_residual-in_err-execute.result _ c.from_residual-in_err-execute.ensures.0;
+  refused = search rules;
+}
