@@ -1,29 +1,28 @@
-use Rattle.std.proofs.Common.{◌≡◌, ◌∷◌, [], refl, sym, true≢false, ◌∙◌}
+use Rattle.std.proofs.Common.{refl, sym, true≢false, ◌∙◌}
 use Rattle.std.specs.Prelude.{None, Some}
-use Rattle.semver_core.specs.Cuts.{Span}
 use Rattle.semver_core.specs.declared.cuts.bound.Bound.TheVariants.{Unbounded}
-use Rattle.semver_core.specs.Values.Versions.{VersionValue}
-use Rattle.key_spans.specs.Ranges.{IsIntervalOf, IsKeyOf, interval_of}
+use Rattle.key_spans.specs.Ranges.{IsIntervalOf, interval_of}
 use Rattle.key_spans.proofs.FromSpans.{interval_none, interval_some, no_stop}
 use Rattle.key_spans.proofs.ranges.interval_of.Goals as goal
 
+last_of : (c : goal.After-new) → IsIntervalOf c.args.span.now (record { lower = c.bound_at-lower.result; upper = Unbounded })
+last_of c = record {
+  first = c.in-Some.first;
+  last = None;
+  starts = record {
+    is_version = c.bound_at-lower.ensures.valid;
+    is_key = (rw c.in-Some.is at c.in_ok-first.ensures.some) ∙ c.deref.ensures.value;
+    no_build = rw c.in-Some.is at c.in_ok-first.ensures.no_build;
+  };
+  ends = sym c.deref-2.ensures.value ∙ c.is_end.ensures.0 c.if-is_end.true;
+  value = λ j. record { lower = c.bound_at-lower.ensures.value j; upper = Unbounded };
+}
+
 pub returns-then-is_end-clause-some : goal.returns-then-is_end-clause-some
-returns-then-is_end-clause-some c =
-    let starts : IsKeyOf c.args.span.now.start.items c.in-Some.first = record {
-      is_version = c.bound_at-lower.ensures.valid;
-      is_key = (rw c.in-Some.is at c.in_ok-first.ensures.some) ∙ c.deref.ensures.value;
-      no_build = rw c.in-Some.is at c.in_ok-first.ensures.no_build;
-    } in
-    let ends : c.args.span.now.stop.items ≡ 255 ∷ [] = sym c.deref-2.ensures.value ∙ c.is_end.ensures.0 c.if-is_end.true in
-    let made : Span VersionValue = record { lower = c.bound_at-lower.result; upper = Unbounded } in
-    let one : IsIntervalOf c.args.span.now made = record {
-      first = c.in-Some.first;
-      last = None;
-      starts = starts;
-      ends = ends;
-      value = λ j. record { lower = c.bound_at-lower.ensures.value j; upper = Unbounded };
-    } in
-    interval_some c.args.span.now made c.new.result c.new.ensures one
+returns-then-is_end-clause-some c = interval_some c.args.span.now _ c.new.result c.new.ensures (last_of c)
+
+pub returns-then-is_end-clause-none : goal.returns-then-is_end-clause-none
+returns-then-is_end-clause-none c = interval_none c.args.span.now _ c.new.result c.new.ensures (last_of c)
 
 one_of : (c : goal.After-between) → IsIntervalOf c.args.span.now (interval_of c.args.span.now.releases_only c.in-Some.first (Some c.in-Some-2.last))
 one_of c = record {
