@@ -25,8 +25,11 @@ module _ {V : Type 0} {R : V → V → Ordering} (o : IsTotalOrder R) where
   minus_one : (ss : List (Span V)) (t : Span V) (v : V) → list_holds R
       (flat_map (λ s. remainder R s t) ss) v ≡ (list_holds R ss v && not (holds R t v))
   minus_one [] t v = refl
-  minus_one (s ∷ ss) t v = grind (arith, list_any-append, left, minus_one ss t v)
+  minus_one (s ∷ ss) t v = grind (arith, list_any-append, left, spread, minus_one ss t v)
     where
+      spread : (a b c : Bool) → ((a && c) || (b && c)) ≡ ((a || b) && c)
+      spread a b c = grind arith
+
       left : list_holds R (remainder R s t) v ≡ (holds R s v && not (holds R t v))
       left = grind (arith, list_any-append, holds_option, remainders-hold)
 

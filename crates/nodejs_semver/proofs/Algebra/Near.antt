@@ -1,5 +1,5 @@
 -- Of spans that stand along the line, those that meet another one stand together.
-use Rattle.nodejs_semver.proofs.Common.{AllWithin, Bool, Cut, IsTotalOrder, List, Ordering, Span, Start, [], all_weaker, any_under, between_from, gt_lt, is_le, list_all-append, tells, irreflexive, list_any-append, flat_map, flat_map-append, none_of, not_above, or_parts, option_to_list, subst, ap, ap₂, append-nil}
+use Rattle.nodejs_semver.proofs.Common.{AllWithin, Bool, Cut, IsTotalOrder, List, Ordering, Span, Start, [], and_parts, all_weaker, any_under, between_from, gt_lt, is_le, list_all-append, tells, irreflexive, list_any-append, flat_map, flat_map-append, none_of, not_above, or_parts, option_to_list, subst, ap, ap₂, append-nil}
 use Rattle.nodejs_semver.proofs.Common.{arith, below_upto, between, cut_cmp, drop, false, get_or, is_interval, is_lt, is_some, is_some-interval, length}
 use Rattle.nodejs_semver.proofs.Common.{list_all, list_any, lower_cut, lt, meet, not, not-true, not_below, not_if, refl, suc, sym, take, take-append-drop}
 use Rattle.nodejs_semver.proofs.Common.{true, upper_cut, upto_below, zero, ℕ, ◌++◌, ◌+◌, ◌<◌, ◌||◌, ◌∙◌, ◌∷◌, ◌≡◌, ◌≤◌}
@@ -63,8 +63,8 @@ module _ {V : Type 0} {R : V → V → Ordering} (o : IsTotalOrder R) where
       → IsAlong R a cs
   along_at a [] h f k = tt
   along_at a (c ∷ cs) h f k =
-      let next = along_at (upper_cut c.upper) cs _ (λ d l. k 0 d (omega arith)) (λ i d l. k (suc i) d (omega arith)) in
-      grind (arith, f c, next)
+      let (one, others) = and_parts (is_interval R c) (list_all (is_interval R) cs) h in
+      (f c (omega arith), (one, along_at (upper_cut c.upper) cs others (λ d l. k 0 d (omega arith)) (λ i d l. k (suc i) d (omega arith))))
 
   -- neighbours of which none reaches the next stand along the line
   pub along_from : (cs : List (Span V)) → list_all (is_interval R) cs ≡ true
