@@ -3,7 +3,7 @@
 ghost use Rattle.std.specs.Prelude.{◌&&◌, ◌||◌, ◌≡◌, false};
 ghost use Rattle.nodejs_semver.specs.Words.{accepts, bound_of, holds, is_past, IsRange, IsTrue};
 ghost use Rattle.nodejs_semver.specs.Words.{lets_in, list_holds, lower_cut, MAX_SAFE_INTEGER};
-ghost use Rattle.nodejs_semver.specs.Words.{names, precedence, span_of, spans_of, upper_cut};
+ghost use Rattle.nodejs_semver.specs.Words.{names, precedence, span_of, spans_of, true, upper_cut};
 
 use crate::RangeOf;
 use semver_core::cuts::{Bound, Interval};
@@ -57,7 +57,9 @@ impl<V: VersionPoint> AcceptsRef for RangeOf<V> {
     }
 }
 
-// Whether some one of the intervals holds the version and lets it in.
+// Whether some one of the intervals holds the version and lets it in. There is a loop for each
+// answer to the flag, which then asks for no flag.
+#[inline(always)]
 pub(crate) fn accepts<V: VersionPoint, W: Versioned>(
     intervals: &[Interval<V>],
     version: &W,
@@ -66,7 +68,31 @@ pub(crate) fn accepts<V: VersionPoint, W: Versioned>(
     ensures { result
         ≡ accepts (spans_of V.value intervals.now) (W.value version.now) include_prerelease }
 {
-    intervals.iter().any(|interval| accepts_one(interval, version, include_prerelease))
+    if include_prerelease {
+        hold(intervals, version)
+    } else {
+        satisfied(intervals, version)
+    }
+}
+
+// Whether some one of the intervals holds the version.
+#[inline(never)]
+fn hold<V: VersionPoint, W: Versioned>(intervals: &[Interval<V>], version: &W) -> bool
+    ensures { result ≡ accepts (spans_of V.value intervals.now) (W.value version.now) true }
+{
+    intervals
+        .iter()
+        .any(|interval| accepts_one(interval, version, true))
+}
+
+// Whether some one of the intervals holds the version and lets it in, pre-releases not included.
+#[inline(never)]
+fn satisfied<V: VersionPoint, W: Versioned>(intervals: &[Interval<V>], version: &W) -> bool
+    ensures { result ≡ accepts (spans_of V.value intervals.now) (W.value version.now) false }
+{
+    intervals
+        .iter()
+        .any(|interval| accepts_one(interval, version, false))
 }
 
 // Whether the interval holds the version and lets it in.
