@@ -34,6 +34,7 @@ fn behind_id(strict: bool, text: &[u8]) -> &[u8]
 }
 
 // What stands behind the identifiers joined by dots at the front.
+#[tactic(auto, using(crate::proofs::Grammar::InsideIds::ids_steps))]
 fn behind_ids(strict: bool, text: &[u8]) -> &[u8]
     ensures { result.now ≡ Spec.behind_ids (length text.now) strict text.now }
 {
@@ -60,7 +61,7 @@ fn behind_pre_release(strict: bool, text: &[u8]) -> &[u8]
 
 // What stands behind the place at the front: loosely behind the digits there, and strictly behind
 // a wildcard or a number that is written strictly. Only so many digits count.
-#[tactic(auto, unfolding(crate::specs::Internal::Inside::behind_place))]
+#[tactic(auto, unfolding(crate::specs::Internal::Inside::behind_place), using(crate::proofs::Grammar::InsideParts::digits_counted))]
 fn behind_place(strict: bool, text: &[u8]) -> &[u8]
     ensures { result.now ≡ Spec.behind_place strict text.now }
 {

@@ -2,7 +2,7 @@
 use Rattle.npm_words.proofs.Common.{Bool, List, [], all_weaker, and_parts, ap, append_assoc, arith, begins, begins_byte, begins_identifier}
 use Rattle.npm_words.proofs.Common.{cases_Bool, common_steps, drop, empty_is, false, has_leading_zero, if◌then◌else◌, inl, inr, is_ascii_digit}
 use Rattle.npm_words.proofs.Common.{is_empty, join_with_byte, length, length-append, length-drop, list_all, nat_tests, not, pieces, prefix_len, refl}
-use Rattle.npm_words.proofs.Common.{suc, sym, take, take-append-drop, true, zero, ℕ, ◌&&◌, ◌++◌, ◌+◌, ◌<◌, ◌==◌, ◌||◌, ◌∙◌, ◌∷◌, ◌≡◌, ◌≤◌}
+use Rattle.npm_words.proofs.Common.{suc, sym, take, take-append-drop, take_rest, true, zero, ℕ, ◌&&◌, ◌++◌, ◌+◌, ◌<◌, ◌==◌, ◌||◌, ◌∙◌, ◌∷◌, ◌≡◌, ◌≤◌}
 use Rattle.npm_words.proofs.Grammar.{PartialLaw.prefix-all, Runs.{run-exact, run-many, steps-go, steps-stop}}
 use Rattle.{npm_words.specs.Internal.Inside.{begins_dotted_id, behind_id, behind_ids}, semver_core.proofs.Reading.Bytes.begins-some}
 use Rattle.semver_core.{proofs.{Reading.Qualifiers.byte-begins, Text.Runs.not_dot}, specs.Text.{Characters.is_identifier_char, Identifiers.goes_on}}
@@ -92,6 +92,8 @@ module _ (strict : Bool) (text rest : List ℕ) (e : rest ≡ behind_id strict t
   pub ids-go : (next : List ℕ) → next ≡ drop 1 rest → begins_dotted_id rest ≡ true
       → behind_ids (length text) strict text ≡ behind_ids (length next) strict next
   ids-go next g h = rw (g, e) (steps-go (λ n. behind_ids n strict) _ _ _ (ids-none strict) (ids-step strict) (dot-less strict) text (rw e at h))
+
+pub ruleset ids_steps = (ids-stop, ids-less, take_rest, nat_tests)
 
 -- ---- what is read is a list, and it is the longest
 
