@@ -92,7 +92,7 @@ fn open<'a>() -> Bounds<'a>
 // The lower bound of `>=version`, the build left out: without pre-releases included, `>=0.0.0` is
 // no comparator, unless a zero in it is written otherwise.
 #[inline(always)]
-#[tactic(auto, using(crate::proofs::Grammar::Rows::from_none, crate::proofs::Grammar::Rows::from_some))]
+#[tactic(auto, using(crate::proofs::Grammar::Rows::lower_ends))]
 fn from_version<'a>(include: bool, padded: bool, version: &VersionRef<'a>) -> Bound<VersionRef<'a>>
     requires within { within (first (Spec.whole version.now)) ≡ true }
     requires normal { are_normal (Spec.whole version.now) ≡ true }
@@ -124,7 +124,7 @@ fn from_numbers<'a>(include: bool, padded: bool, numbers: Numbers) -> Bound<Vers
 
 // `>=` of three numbers, where none of them is past the limit.
 #[inline(always)]
-#[tactic(auto, using(crate::proofs::Grammar::Rows::noted_valid, crate::proofs::Grammar::Printed::from_valid))]
+#[tactic(auto, using(crate::proofs::Grammar::Rows::noted_from))]
 fn from<'a>(include: bool, padded: bool, numbers: Numbers) -> Option<Bounds<'a>>
     ensures { AreRead include (noted padded (from include numbers) ∷ []) result }
 {
