@@ -61,7 +61,7 @@ fn behind_pre_release(strict: bool, text: &[u8]) -> &[u8]
 
 // What stands behind the place at the front: loosely behind the digits there, and strictly behind
 // a wildcard or a number that is written strictly. Only so many digits count.
-#[tactic(auto, unfolding(crate::specs::Internal::Inside::behind_place), using(crate::proofs::Grammar::InsideParts::digits_counted))]
+#[tactic(auto, unfolding(crate::specs::Internal::Inside::behind_place))]
 fn behind_place(strict: bool, text: &[u8]) -> &[u8]
     ensures { result.now ≡ Spec.behind_place strict text.now }
 {

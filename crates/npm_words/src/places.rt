@@ -50,7 +50,7 @@ fn padded_place(loose: bool, text: &[u8]) -> Option<(Place, &[u8])>
 
 // The place at the front, and the text behind it.
 #[inline(always)]
-#[tactic(auto, using(crate::proofs::Grammar::PartialLaw::places_found), unfolding(crate::specs::Internal::Words::place_front))]
+#[tactic(auto, using(crate::proofs::Grammar::PartialLaw::places_found))]
 fn place_front(loose: bool, text: &[u8]) -> Option<(Place, &[u8])>
     ensures { front_view result ≡ Spec.first_as Spec.capped_one (Spec.place_front loose text.now) }
 {

@@ -4,7 +4,7 @@ use Rattle.npm_words.proofs.Common.{and_parts, ap, append_assoc, ap₂, arith, b
 use Rattle.npm_words.proofs.Common.{begins_wildcard, build_front, cases_Bool, common_steps, dashed, digits_value, drop, drop_at, false}
 use Rattle.npm_words.proofs.Common.{has_leading_zero, if◌then◌else◌, inl, inr, is_ascii_digit, is_none, is_strict_list, length, length-append}
 use Rattle.npm_words.proofs.Common.{length-drop, list_all, listed, nat_le, nat_lt, nat_tests, no_build, no_pre_release, not, one, pieces, plus}
-use Rattle.npm_words.proofs.Common.{prefix_len, refl, subst, suc, sym, take, take-append-drop, take_rest, three, true, two, zero, ℕ, ◌&&◌, ◌++◌, ◌<◌, ◌==◌, ◌||◌}
+use Rattle.npm_words.proofs.Common.{prefix_len, refl, subst, suc, sym, take, take-append-drop, three, true, two, zero, ℕ, ◌&&◌, ◌++◌, ◌<◌, ◌==◌, ◌||◌}
 use Rattle.npm_words.proofs.{Common.{◌∙◌, ◌∷◌, ◌≡◌, ◌≤◌, ◌⊎◌}, Grammar.InsideIds.{Ends, are_good, drop-le, ids-begin, ids-ends, ids-found, ids-le}}
 use Rattle.npm_words.proofs.Grammar.{InsideIds.is_good, PartialLaw.{digits-of, run-number}, Runs.run-many, VersionLaw.build-found}
 use Rattle.npm_words.specs.{Grammar.{IsPreRelease, written}, Internal.Inside.{begins_dotted, behind_ids, behind_partial, behind_place, behind_places}}
@@ -376,5 +376,3 @@ prefix-take F (suc k) (c ∷ text) = grind (arith, nat_tests, prefix-take F k te
 pub digits_most : (strict : Bool) (k : ℕ) (text : List ℕ) → k ≡ (if nat_lt (most strict) (length text) then most strict else length text)
     → prefix_len is_ascii_digit (take k text) ≡ capped strict (prefix_len is_ascii_digit text)
 digits_most strict k text e = let le = prefix_len-le-length is_ascii_digit text in rw e (grind (arith, nat_tests, prefix-take))
-
-pub ruleset digits_counted = (digits_most, take_rest, nat_tests)

@@ -257,7 +257,7 @@ unfolding number_of
 great_placed loose text at front dark bare is first last =
     grind (arith, nat_tests, common_steps, place_run, run-leading, length-prefix_len, prefix-all, some-run, take_rest)
 
-pub ruleset places_found = (number_placed, wildcard_read, take_rest)
+pub ruleset places_found = (number_placed, wildcard_read)
 
 pub ruleset padded_places = (valued_placed, strict_is, run-leading, place_run, length-prefix_len, nat_tests)
 
