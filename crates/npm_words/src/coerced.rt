@@ -57,7 +57,7 @@ fn tuple_len(text: &[u8]) -> usize
 }
 
 // How long the longest tuple at a place is, which begins with no digit of a run before it.
-#[tactic(auto, using(crate::proofs::VersionTexts::Coerced::last_before))]
+#[tactic(auto, using(crate::proofs::VersionTexts::Coerced::last_places))]
 fn tuple_len_at(text: &[u8], at: usize) -> usize
     requires { at ≤ length text.now }
     ensures value { result ≡ Spec.tuple_len_at text.now at }
@@ -120,6 +120,7 @@ impl Stretch {
 
     // Where the list at a place ends. A place of the stretch is not searched again: if the places
     // that are asked for ascend, no character is passed twice.
+    #[tactic(auto, using(crate::proofs::VersionTexts::Lists::stretches))]
     fn list_end(&mut self, strict: bool, text: &[u8], at: usize) -> usize
         requires inside { at ≤ length text.now }
         requires known { IsStretch strict text.now self.old }

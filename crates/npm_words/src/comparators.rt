@@ -58,6 +58,7 @@ fn prints_within(version: VersionRef<'_>) -> bool
 
 // Whether a version prints so few characters without its build. A release does.
 #[inline(always)]
+#[tactic(auto, using(crate::proofs::Grammar::Printed::bare_short))]
 pub fn prints_short(version: &VersionRef<'_>) -> bool
     requires { within (Spec.first (Spec.whole version.now)) ≡ true }
     ensures { result ≡ nat_le (length (version_text (no_build version.now))) MAX_LENGTH }
@@ -91,6 +92,7 @@ fn open<'a>() -> Bounds<'a>
 // The lower bound of `>=version`, the build left out: without pre-releases included, `>=0.0.0` is
 // no comparator, unless a zero in it is written otherwise.
 #[inline(always)]
+#[tactic(auto, using(crate::proofs::Grammar::Rows::lower_ends))]
 fn from_version<'a>(include: bool, padded: bool, version: &VersionRef<'a>) -> Bound<VersionRef<'a>>
     requires within { within (first (Spec.whole version.now)) ≡ true }
     requires normal { are_normal (Spec.whole version.now) ≡ true }
@@ -122,6 +124,7 @@ fn from_numbers<'a>(include: bool, padded: bool, numbers: Numbers) -> Bound<Vers
 
 // `>=` of three numbers, where none of them is past the limit.
 #[inline(always)]
+#[tactic(auto, using(crate::proofs::Grammar::Rows::noted_from))]
 fn from<'a>(include: bool, padded: bool, numbers: Numbers) -> Option<Bounds<'a>>
     ensures { AreRead include (noted padded (from include numbers) ∷ []) result }
 {

@@ -34,6 +34,7 @@ fn behind_id(strict: bool, text: &[u8]) -> &[u8]
 }
 
 // What stands behind the identifiers joined by dots at the front.
+#[tactic(auto, using(crate::proofs::Grammar::InsideIds::ids_steps))]
 fn behind_ids(strict: bool, text: &[u8]) -> &[u8]
     ensures { result.now ≡ Spec.behind_ids (length text.now) strict text.now }
 {

@@ -5,7 +5,7 @@ use Rattle.nodejs_semver.proofs.Common.{list_all, list_all-append, list_any, map
 use Rattle.nodejs_semver.{proofs.Common.{true, version_of, ℕ, ◌&&◌, ◌++◌, ◌||◌, ◌∙◌, ◌∷◌, ◌≡◌}, specs.Text.Runs.interval_of}
 use Rattle.npm_reading.proofs.Alike.Rows.{Beside, is_far, is_written, meets-both, named-ends, named_by, passed, passed-both, word-row}
 use Rattle.npm_reading.specs.Alike.{ArePlainWords, IsPlainWord, bare, is_apart, is_plain, more_words, one_word, signed, tilde_greater, version_in}
-use Rattle.{npm_reading.specs.Alike.word_of, npm_words.proofs.{Common.{Comparison, compared, is_valid}, Grammar.Rows.{holds-both, lets_in-both}}}
+use Rattle.{npm_reading.specs.Alike.word_of, npm_words.proofs.{Common.{Comparison, is_valid}, Grammar.Rows.{holds-both, lets_in-both}}}
 use Rattle.{npm_words.specs.Table.Sign, semver_core.{proofs.Gate.both, specs.Printing.RoundTrip.is_within}}
 
 -- ---- what two spans have in common
@@ -13,8 +13,7 @@ use Rattle.{npm_words.specs.Table.Sign, semver_core.{proofs.Gate.both, specs.Pri
 met_bits : (r hs ht ls lt l ps pt ns nt : Bool) → (r ≡ true → ls ≡ true) → (r ≡ true → lt ≡ true) → (hs ≡ true → ht ≡ true → l ≡ (ls || lt))
     → (hs && ls) ≡ (ps && (r || ns)) → (ht && lt) ≡ (pt && (r || nt)) → ((ps && ns) ≡ true → ht ≡ pt) → ((pt && nt) ≡ true → hs ≡ ps)
     → ((hs && ht) && l) ≡ ((ps && pt) && (r || (ns || nt)))
-met_bits true hs ht ls lt l ps pt ns nt a b h s t f g = grind arith
-met_bits false hs ht ls lt l ps pt ns nt a b h s t f g = grind arith
+met_bits r hs ht ls lt l ps pt ns nt a b h s t f g = grind arith
 
 beside-both : (some : Bool) (v : VersionValue) (s t : Span VersionValue) (cs ds : List Comparison) → Beside v some some s cs
     → Beside v some some t ds → Beside v some some (both s t) (cs ++ ds)
@@ -77,8 +76,7 @@ all-fit v ws h = elim (cases_Bool (list_any (is_written v) ws)) [
 
 -- a pre-release is written only where one may be
 in-word : (s : Sign) (p : Partial) → version_in (word_of s p) ≡ version_of p
-in-word (compared c) p = refl
-in-word s p = refl
+in-word s p = grind arith
 
 plain-written : (pre same : Bool) (p : Partial) → is_plain pre p ≡ true → (not (is_release (version_of p)) && same) ≡ true → pre ≡ true
 plain-written pre same p h k = grind (arith, nat_tests, common_steps)

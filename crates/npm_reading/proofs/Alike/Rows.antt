@@ -77,8 +77,7 @@ table-values pre text s p h =
 -- `~>` is `~`
 same-tilde : (pre : Bool) (p : Partial) → Form pre p → is_some p.major ≡ true → table MAX_SAFE_INTEGER (tilde true p) ≡ table MAX_SAFE_INTEGER (tilde false p)
 unfolding table
-same-tilde pre p any m = cc m
-same-tilde pre p f m = refl
+same-tilde pre p f m = grind arith
 
 not_zero : (M : ℕ) → (suc M == 0) ≡ false
 not_zero M = grind (arith, nat_tests)

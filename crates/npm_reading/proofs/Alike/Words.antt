@@ -31,8 +31,7 @@ abbrev pub is_word_byte : ℕ → Bool
 is_word_byte b = is_component_byte b || (b == 118 || (is_sign b || (b == 94 || b == 126)))
 
 pub word-solid : (text : List ℕ) → begins is_word_byte text ≡ true → begins is_solid text ≡ true
-word-solid [] h = h
-word-solid (b ∷ rest) h = grind (arith, nat_tests, component-solid (b ∷ rest))
+word-solid text h = grind (arith, nat_tests, component-solid text)
 
 pub word-dark : (text : List ℕ) → begins is_word_byte text ≡ true → space_len text ≡ 0
 word-dark text h = solid-dark text (word-solid text h)
@@ -45,8 +44,7 @@ no-dash text h = grind arith
 -- nothing goes on at a text that begins with whitespace
 stop-dark : (more : List ℕ) → 0 < space_len more → Stop more
 unfolding list_len dotted_front
-stop-dark [] h = stop-nil
-stop-dark (b ∷ rest) h = grind (arith, nat_tests, false_from_ne_true, solid-dark, eqb-true)
+stop-dark more h = grind (arith, nat_tests, false_from_ne_true, solid-dark, eqb-true, stop-nil)
 
 ends-blank : (limit : ℕ) (blank rest : List ℕ) → IsBlank blank → 0 < length blank → begins is_word_byte rest ≡ true → Ends limit (blank ++ rest)
 ends-blank limit blank rest h some e =

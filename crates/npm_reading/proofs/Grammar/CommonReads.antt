@@ -15,7 +15,7 @@ use Rattle.npm_words.proofs.Grammar.{Characters.partial-part, Hyphens.{front-is,
 use Rattle.npm_words.proofs.Grammar.{Ignored.no-blank, PartialLaw.{front-as, front-text, number-read, over_qualified, places-found, wildcard_read}}
 use Rattle.npm_words.proofs.Grammar.{Printed.{capped-same, table-invalid, valid-within}, Rows.{both_common, narrowed}, Signs.blank-nil, VersionLaw.At}
 use Rattle.npm_words.{proofs.Grammar.{Words.{places-some, strict-kept}, Zeros.{strict-unpadded, strict-zeros}}, specs.Internal.Parts.AreZeros}
-use Rattle.npm_words.specs.{Internal.{Parts.{is_padded, is_wildcard}, Words.{is_over, places_front}}, Table.{Partial, Sign, first, major, minor}}
+use Rattle.npm_words.specs.{Internal.{Parts.{is_padded}, Words.{is_over, places_front}}, Table.{Partial, Sign, first, major, minor}}
 use Rattle.{npm_words.specs.Table.{table, whole, wildcard, written_zeros, zeros}, semver_core.proofs.Dividing.BarsDivide.{bars_divide, pieces-utf8}}
 use Rattle.semver_core.proofs.{Gate.both, Reading.{Boundaries.{blank-len, trim-utf8}, Bytes.{all-end, all-join, solid-dark}}}
 use Rattle.semver_core.specs.Internal.{Fronts.{after_byte, begins_wildcard, dotted_with, number_with}, Parts.after_bars}
@@ -191,12 +191,6 @@ module _ (text : List ℕ) where
 
 -- ---- a word of any partial, which the code has with the limit + 1 in the place of greater numbers
 
-zeros-capped : (p : Partial) → zeros (capped_partial p) ≡ zeros p
-zeros-capped p = grind (arith, nat_tests)
-
-wild-capped : (p : Partial) → is_wildcard (capped_partial p) ≡ is_wildcard p
-wild-capped p = grind arith
-
 module _ (text : List ℕ) (include : Bool) (signed : List ℕ) (s : Sign) (sign : IsSignAt signed s text) (b : Bounds) (z : ℕ) where
   abbrev Read : Partial × List ℕ → Type 0
   Read x = let cut = take (length text - length x.1) text in
@@ -207,7 +201,7 @@ module _ (text : List ℕ) (include : Bool) (signed : List ℕ) (s : Sign) (sign
       let f = places-found false text p rest h in
       let cut = take (length text - length rest) text in
       let cut_is : cut ≡ f.piece = front-is text f.piece rest f.split in
-      let good = read (λ w. grind (arith, zeros-capped p, cut_is, strict-zeros f.piece p f.is, wild-capped p)) in
+      let good = read (λ w. grind (arith, nat_tests, cut_is, strict-zeros f.piece p f.is)) in
       let small = valid-within (λ p. table include s p cut) (λ p. table-invalid include s p cut) p good.0 in
       word-found text p rest (rw (h, small) refl) include signed s (bounds_view b) sign (rw (capped-same p small) at good)
 

@@ -16,7 +16,7 @@ use Rattle.npm_words.proofs.{Common.{signed_front_view, signed_word, upper_of, v
 use Rattle.npm_words.proofs.Grammar.{Hyphens.{both_capped, hyphen-capped}, Printed.{capped-valid, table-invalid, valid-same}}
 use Rattle.npm_words.specs.{Table.{Partial, table}, declared.words.Signed.Signed}
 use Rattle.semver_core.{proofs.Dividing.BarsDivide.bars_once, specs.{Failures.{NoValue, RefusedOnlyIf}, Internal.Reading.◌>>?◌}}
-use Rattle.std.{proofs.lemmas.List.Elements.filter_map-append, specs.{List.cons_option, Prelude.is_none}}
+use Rattle.std.{proofs.lemmas.List.Elements.filter_map-append, specs.{Prelude.is_none}}
 use Rattle.npm_words.specs.Internal.Words as Words
 
 -- one interval is kept, since one without bounds is any version
@@ -88,9 +88,6 @@ step-found : (include : Bool) (all : Alternative) (o : Option (Option (List Comp
 step-found include all None s h = absurd h
 step-found include all (Some w) s h = (w, refl, h)
 
-step-none : (include : Bool) (all : Alternative) (o : Option (Option (List Comparison) × List ℕ)) → IsStep include all o None → o ≡ None
-step-none include all o h = grind arith
-
 abbrev pub found_of : Bool → Bool → List ℕ → Option (Bool × List Comparison)
 found_of loose include text = words_of loose include text >>? λ all. Some (words_of_all all)
 
@@ -99,8 +96,8 @@ module _ (loose include : Bool) (text rest : List ℕ) (all : Alternative) (is_l
   pub word-none : 0 < length rest → IsStep include all (first_valid loose include rest) None
       → IsFound include (found_of loose include text) None
   word-none some k =
-      rw (words-none loose include text rest all.interval all.is_bare is_last h some
-      (step-none include all (first_valid loose include rest) k)) tt
+      let none : first_valid loose include rest ≡ None = grind (arith, k) in
+      rw (words-none loose include text rest all.interval all.is_bare is_last h some none) tt
 
   pub word-next : (s : Alternative × Bool × Bor (List ℕ)) → 0 < length rest → IsStep include all (first_valid loose include rest) (Some s)
       → AreWordsTo loose include text s.0.interval s.0.is_bare s.1 s.2.now × (length s.2.now < length rest)
@@ -132,15 +129,12 @@ one-span : (include : Bool) (cs : List Comparison) (o : Option (Span VersionValu
 one-span include cs o h = rw h.is (cond_both (is_interval precedence h.span) (Some h.span) None
     (λ m. list_all (is_range_span (MAX_SAFE_INTEGER + 1)) (option_to_list m) ≡ true) (λ i. rw (i, h.has.lower, h.has.upper) refl) (λ _. refl))
 
-cons-append : (o : Option (Span VersionValue)) (ss : List (Span VersionValue)) → cons_option o ss ≡ option_to_list o ++ ss
-cons-append o ss = grind arith
-
 -- an alternative behind others, and before them
 found-append : (include : Bool) (ls : List (List Comparison)) (cs : List Comparison) (o : Option (Span VersionValue))
     (before after : List (Span VersionValue)) → AreFound include ls before → IsNarrowed include cs o → after ≡ before ++ option_to_list o
     → AreFound include (ls ++ cs ∷ []) after
 found-append include ls cs o before after h k e = record {
-  are = grind (arith, nat_tests, e, h.are, narrowed-interval include cs o k, cons-append, append-nil, filter_map-append);
+  are = grind (arith, nat_tests, e, h.are, narrowed-interval include cs o k, append-nil, filter_map-append);
   spans = rw (e, list_all-append (is_range_span (MAX_SAFE_INTEGER + 1)) before (option_to_list o), h.spans, one-span include cs o k) refl;
 }
 
@@ -148,7 +142,7 @@ pub found-cons : (include : Bool) (ls : List (List Comparison)) (cs : List Compa
     (others : List (Span VersionValue)) → AreFound include ls others → IsNarrowed include cs o
     → AreFound include (cs ∷ ls) (option_to_list o ++ others)
 found-cons include ls cs o others h k = record {
-  are = grind (arith, nat_tests, h.are, narrowed-interval include cs o k, cons-append);
+  are = grind (arith, nat_tests, h.are, narrowed-interval include cs o k);
   spans = rw (list_all-append (is_range_span (MAX_SAFE_INTEGER + 1)) (option_to_list o) others, h.spans, one-span include cs o k) refl;
 }
 

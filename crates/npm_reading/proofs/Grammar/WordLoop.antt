@@ -56,8 +56,7 @@ one-more : (read : List (Option (List Comparison))) (w : Option (List Comparison
 one-more read w = flat_map-append (λ cs. unwrap_or cs []) read (w ∷ []) ∙ ap (λ (l : List Comparison). comparators_of read ++ l) (append-nil (unwrap_or w []))
 
 first-kept : (w : Option (List Comparison)) (l : List (Option (List Comparison))) → nat_lt 0 (prefix_len is_none ((w ∷ []) ++ l)) ≡ is_none w
-first-kept None l = grind (arith, nat_tests)
-first-kept (Some cs) l = refl
+first-kept w l = grind (arith, nat_tests)
 
 last-more : (read : List (Option (List Comparison))) (w : Option (List Comparison)) → nat_lt 0 (suffix_len is_none (read ++ w ∷ [])) ≡ is_none w
 last-more read w = ap (λ l. nat_lt 0 (prefix_len is_none l)) (reverse-append read (w ∷ [])) ∙ first-kept w (reverse read)

@@ -1,17 +1,17 @@
 -- The malformed end of a hyphen range.
-use Rattle.npm_words.proofs.Common.{AreRead, Bool, Comparison, Ended, IsUtf8, List, MAX_SAFE_INTEGER, None, Option, Some, [], after_byte, after_ends}
+use Rattle.npm_words.proofs.Common.{AreRead, Bool, Comparison, Ended, IsUtf8, List, MAX_SAFE_INTEGER, None, Option, Some, [], after_ends}
 use Rattle.npm_words.proofs.Common.{and_parts, ap, append_assoc, are_normal, arith, begins, bind_some, capped_in, cond_some, drop_at, drop_ends}
 use Rattle.npm_words.proofs.Common.{drop_spaces, encode_utf8_all, end_front, false, from_boundary, if◌then◌else◌, inr, is_empty, is_free}
 use Rattle.npm_words.proofs.Common.{is_free_lower, is_free_upper, is_mark, is_right, is_some, is_valid, last_end, length, length-append, list_all}
 use Rattle.npm_words.proofs.Common.{lower_of, nat_tests, refl, space_len, space_len-nil, subst, suc, sym, take_at, true, upper_of, zero, ℕ, ◌++◌, ◌+◌}
 use Rattle.npm_words.proofs.Common.{◌-◌, ◌>>?◌, ◌∙◌, ◌∷◌, ◌≡◌, ◌≤◌}
-use Rattle.npm_words.proofs.{FlawPlaces.Ranges.one_malformed_word, Grammar.Hyphens.{end-found, end-normal, end-read, ends-found, ends-read}}
+use Rattle.npm_words.proofs.{FlawPlaces.Ranges.one_malformed_word, Grammar.Hyphens.{dash-is, dash-of, end-found, end-normal, end-read, ends-found, ends-read}}
 use Rattle.npm_words.proofs.Grammar.{Hyphens.{free-capped, front-is, normal-capped, right-end}, Printed.{capped-valid, lower-invalid, upper-invalid}}
 use Rattle.npm_words.{proofs.Common.empty_is, specs.Internal.{Ends.{behind_end, is_lower, is_right_one, is_upper}, Words.after_dash}}
 use Rattle.npm_words.specs.{Internal.Words.end_len, MalformedEnds.{HasEnds, IsEndPlace, IsLower, IsMalformedPart, IsRightEnd, IsUpper, IsWrongEnd}}
-use Rattle.npm_words.specs.{MalformedEnds.{SkipsDash, SkipsMarks, a_word, an_end, lower, upper}, Table.Partial}
-use Rattle.semver_core.proofs.Reading.Boundaries.{blank-len, boundary-utf8, byte-is, first-is, skips-of, skips-utf8, some_space-is, tail-utf8}
-use Rattle.semver_core.specs.{Internal.Boundaries.after_some_space, Text.{Boundaries.IsFirstBoundary, Characters.BeginsBlank}}
+use Rattle.npm_words.specs.{MalformedEnds.{SkipsMarks, a_word, an_end, lower, upper}, Table.Partial}
+use Rattle.semver_core.proofs.Reading.Boundaries.{blank-len, boundary-utf8, first-is, some_space-is}
+use Rattle.semver_core.specs.{Text.{Boundaries.IsFirstBoundary}}
 use Rattle.{semver_core.specs.Values.Versions.VersionValue, semver_pieces.specs.declared.bounds.Bounds.Bounds}
 use Rattle.std.proofs.lemmas.Str.{IsCharBoundary-at_seam, IsUtf8-take}
 unfoldable use Rattle.npm_words.specs.Internal.Ends.{end_texts}
@@ -26,21 +26,15 @@ ends-gone (suc n) (b ∷ rest) = ends-gone n rest
 ends-gone zero (b ∷ rest) =
     let more : (n : ℕ) → end_len (after_ends n rest) ≡ 0 = λ n. ends-gone n rest in grind (arith, nat_tests, more)
 
-mark-gone : (text : List ℕ) → end_len text ≡ 0 → (begins is_mark text ≡ false) × (space_len text ≡ 0)
-mark-gone text h = grind (arith, nat_tests, space_len-nil)
-
-dark-len : (front rest : List ℕ) → IsUtf8 (front ++ rest) → (BeginsBlank rest → ⊥) → space_len rest ≡ 0
-dark-len front rest u h = grind (arith, nat_tests, some_space-is front rest (drop_spaces rest) u)
-
 marks-is : (text : List ℕ) → IsUtf8 text → SkipsMarks text (drop_ends text)
 marks-is text u =
     let m = ends-found text u in
-    let gone = mark-gone (drop_ends text) (ends-gone 0 text) in
+    let gone : (begins is_mark (drop_ends text) ≡ false) × (space_len (drop_ends text) ≡ 0) = grind (arith, nat_tests, space_len-nil, ends-gone 0 text) in
     (encode_utf8_all m.characters, m.split, (m.characters, refl, m.each), gone.0, λ b. omega (arith, gone.1, blank-len (drop_ends text) b))
 
 marks-of : (text rest : List ℕ) → IsUtf8 text → SkipsMarks text rest → drop_ends text ≡ rest
 marks-of text rest u s =
-    let dark = dark-len s.0 rest (rw s.1 at u) s.4 in
+    let dark : space_len rest ≡ 0 = grind (arith, nat_tests, some_space-is s.0 rest (drop_spaces rest) (rw s.1 at u), s.4) in
     ap drop_ends (s.1 ∙ ap (λ (t : List ℕ). t ++ rest) s.2.1) ∙ ends-read s.2.0 rest s.2.2 s.3 dark
 
 first-once : (text a b : List ℕ) → IsFirstBoundary text a → IsFirstBoundary text b → a ≡ b
@@ -63,28 +57,6 @@ place-of text behind u p =
 -- what is in front of what stands behind an end
 place-split : (text behind : List ℕ) → IsEndPlace text behind → (front : List ℕ) × (text ≡ front ++ behind)
 place-split text behind p = (p.1.0 ++ p.2.0, p.1.1 ∙ ap (λ (t : List ℕ). p.1.0 ++ t) p.2.1 ∙ sym (append_assoc p.1.0 p.2.0 behind))
-
--- ---- the dash
-
-dash-is : (front text second : List ℕ) → IsUtf8 (front ++ text) → after_dash text ≡ Some second → SkipsDash text second × IsUtf8 second
-dash-is front text second u h =
-    let sign = bind_some (after_some_space text) _ second h in
-    let s = some_space-is front text sign.0 u sign.1 in
-    let g = bind_some (after_byte 45 sign.0) after_some_space second sign.2 in
-    let dash = byte-is 45 sign.0 g.0 g.1 in
-    let w = tail-utf8 45 g.0 (omega arith) (rw dash at (skips-utf8 text sign.0 s.2 s.0)) in
-    let t = some_space-is [] g.0 second w g.2 in
-    ((g.0, s.1, rw dash at s.2, t.1, t.2), skips-utf8 g.0 second t.2 w)
-
-some_space-of : (text rest : List ℕ) → IsUtf8 text → BeginsBlank text → drop_spaces text ≡ rest → after_some_space text ≡ Some rest
-some_space-of text rest u b s = grind (arith, nat_tests, blank-len)
-
-dash-of : (text second : List ℕ) → IsUtf8 text → SkipsDash text second → (after_dash text ≡ Some second) × IsUtf8 second
-dash-of text second u d =
-    let w = tail-utf8 45 d.0 (omega arith) (skips-utf8 text (45 ∷ d.0) d.2 u) in (
-      rw (some_space-of text (45 ∷ d.0) u d.1 (skips-of text (45 ∷ d.0) u d.2), some_space-of d.0 second w d.3 (skips-of d.0 second w d.4)) refl,
-      skips-utf8 d.0 second d.4 w,
-    )
 
 -- ---- the form of a hyphen range
 

@@ -74,10 +74,6 @@ divides p (c ∷ cs) = elim (cases_Bool (p c)) [
   | inr other ↦ ([], c ∷ cs, refl, refl, other)
 ]
 
--- nothing of a version goes on with whitespace
-blank-quiet : (r : List ℕ) → blank r ≡ true → begins is_solid r ≡ false
-blank-quiet r h = grind (arith, nat_tests)
-
 module _ (limit : ℕ) where
   -- the text is read to its end, and is a version
   abbrev pub is_read : State → List ℕ → Bool
@@ -208,7 +204,7 @@ module _ (limit : ℕ) where
       → Whole Start (middle ++ r)
   unfolding run next pre_front
   version-read less middle r v nine le after (written mark x y z pre build w m i j k p q) =
-      let e = blank-quiet r after in
+      let e : begins is_solid r ≡ false = grind (arith, nat_tests) in
       let ends = build-ends build r w.build q e in
       let quiet : begins is_ascii_digit (pre ++ (build ++ r)) ≡ false =
       grind (arith, pre-follows false is_strict_list pre (build ++ r) w.pre_release p ends) in

@@ -6,7 +6,7 @@ use Rattle.npm_words.proofs.Common.{inl, inr, is_empty, is_free_lower, is_free_u
 use Rattle.npm_words.proofs.Common.{list_all, map, marks_len, middle_is_trim, nat_tests, prefix_len, refl, same_Some, signed_word, suc, sym, take}
 use Rattle.npm_words.proofs.Common.{take_rest, trim, trim_is_middle, true, words_of_all, words_within, ℕ, ◌&&◌, ◌+◌, ◌-◌, ◌↔◌, ◌∙◌, ◌∷◌, ◌≡◌, ◌≤◌}
 use Rattle.npm_words.proofs.Grammar.Hyphens.{ended_of, ends_of, front-normal, hyphen-found, hyphen-read, normal-capped, partial-le, right-end}
-use Rattle.npm_words.{proofs.Grammar.{PartialLaw.{front-as, prefix-all}, Words.{words-found, words-read}}, specs.Internal.Words.hyphen_or}
+use Rattle.npm_words.{proofs.Grammar.{PartialLaw.{prefix-all}, Words.{words-found, words-read}}, specs.Internal.Words.hyphen_or}
 use Rattle.npm_words.specs.{Internal.Words.{npm_alternatives, places_front}, RangeText.{hyphen, next, words}, Table.Partial}
 use Rattle.semver_core.proofs.{Dividing.BarsDivide.{bars_divide, bars_once, pieces-utf8}, Reading.Boundaries.{tail-utf8, trim-utf8}}
 use Rattle.semver_core.proofs.Reading.Steps.{option-cases}
@@ -34,15 +34,9 @@ pub ruleset marks_found = (marks_all)
 
 -- ---- the identifiers of the partials that are read are in normal form
 
--- the partial of a word that is read
-signed-normal : (loose : Bool) (text : List ℕ) (w : Signed × List ℕ) → signed_word loose text ≡ Some w → are_normal w.0.1 ≡ true
-unfolding signed_word
-signed-normal loose text w h = grind (arith, front-normal)
-
 pub word-normal : (loose : Bool) (text : List ℕ) (w : Signed × List ℕ) → Some w ≡ first_as capped_in (signed_word loose text) → are_normal w.0.1 ≡ true
-word-normal loose text w h =
-    let v = front-as capped_in (signed_word loose text) w h in
-    ap (λ (x : Signed × List ℕ). are_normal x.0.1) v.2 ∙ normal-capped v.0.0.1 ∙ signed-normal loose text v.0 v.1
+unfolding signed_word
+word-normal loose text w h = grind (arith, front-normal, normal-capped)
 
 -- ---- alternatives
 

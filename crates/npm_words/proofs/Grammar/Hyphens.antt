@@ -12,7 +12,7 @@ use Rattle.npm_words.proofs.Common.{space_len-nil, subst, suc, sym, take, true, 
 use Rattle.npm_words.proofs.{Common.{◌∷◌, ◌≡◌, ◌≤◌}, Grammar.{Characters.{is_signal, sign-signal}, PartialLaw.{boundary-quiet, front-text}}}
 use Rattle.npm_words.proofs.Grammar.{PartialLaw.{places-found, places-read}, Printed.{capped-valid, lower-invalid, upper-invalid, valid-same}}
 use Rattle.npm_words.{proofs.Grammar.{Runs.run-exact, Signs.marks-all, Words.{marks-dropped, places-begin}}, specs.Grammar.IsPreRelease}
-use Rattle.npm_words.specs.{Internal.{Reads.valid_one, Words.{after_dash, end_len, places_front}}, RangeText.{formed, ignored, more}, Table.Partial}
+use Rattle.npm_words.specs.{MalformedEnds.SkipsDash, Internal.{Reads.valid_one, Words.{after_dash, end_len, places_front}}, RangeText.{formed, ignored, more}, Table.Partial}
 use Rattle.{npm_words.specs.Table.whole, semver_core.proofs.{Normal.identifiers-normal, Reading.Boundaries.{blank-len, boundary-of, boundary-utf8}}}
 use Rattle.semver_core.proofs.Reading.{Boundaries.{byte-is, front-dark, skips-of, skips-utf8, some_space-is, tail-utf8}, Bytes.all-join}
 use Rattle.semver_core.proofs.{Reading.Bytes.{begins_component, is_component_byte, is_solid}, Text.SpaceLaw.front_is_first_character}
@@ -126,14 +126,28 @@ before-utf8 loose text rest h u blank =
 some_space-read : (text rest : List ℕ) → IsUtf8 text → BeginsBlank text → SkipsBlank text rest → after_some_space text ≡ Some rest
 some_space-read text rest u b s = rw (lt-ltb 0 (space_len text) (blank-len text b), skips-of text rest u s) refl
 
+-- the dash, and what stands behind it
+pub dash-is : (front text second : List ℕ) → IsUtf8 (front ++ text) → after_dash text ≡ Some second → SkipsDash text second × IsUtf8 second
+dash-is front text second u h =
+    let sign = bind_some (after_some_space text) _ second h in
+    let s = some_space-is front text sign.0 u sign.1 in
+    let g = bind_some (after_byte 45 sign.0) after_some_space second sign.2 in
+    let dash = byte-is 45 sign.0 g.0 g.1 in
+    let w = tail-utf8 45 g.0 (omega arith) (rw dash at (skips-utf8 text sign.0 s.2 s.0)) in
+    let t = some_space-is [] g.0 second w g.2 in
+    ((g.0, s.1, rw dash at s.2, t.1, t.2), skips-utf8 g.0 second t.2 w)
+
+pub dash-of : (text second : List ℕ) → IsUtf8 text → SkipsDash text second → (after_dash text ≡ Some second) × IsUtf8 second
+dash-of text second u d =
+    let w = tail-utf8 45 d.0 (omega arith) (skips-utf8 text (45 ∷ d.0) d.2 u) in
+    (rw (some_space-read text (45 ∷ d.0) u d.1 d.2, some_space-read d.0 second w d.3 d.4) refl, skips-utf8 d.0 second d.4 w)
+
 pub hyphen-read : (loose : Bool) (text : List ℕ) → IsUtf8 text → (h : IsHyphen loose text) → hyphen_ends loose text ≡ Some (ends_of loose text h)
 unfolding hyphen_ends
 hyphen-read loose text u h =
-    let d = h.dash in
-    let v = before-utf8 loose text h.before h.lower u d.1 in
-    let w = tail-utf8 45 d.0 (omega arith) (skips-utf8 h.before (45 ∷ d.0) d.2 v) in
-    let lower = end-read loose text h.before h.lower (boundary-quiet h.before (boundary-of h.before (inr d.1))) in
-    rw (lower, some_space-read h.before (45 ∷ d.0) v d.1 d.2, some_space-read d.0 h.second w d.3 d.4, end-read loose h.second [] h.upper refl) refl
+    let v = before-utf8 loose text h.before h.lower u h.dash.1 in
+    let lower = end-read loose text h.before h.lower (boundary-quiet h.before (boundary-of h.before (inr h.dash.1))) in
+    rw (lower, (dash-of h.before h.second v h.dash).0, end-read loose h.second [] h.upper refl) refl
 
 pub hyphen-found : (loose : Bool) (text : List ℕ) (e : Ended × Ended) → IsUtf8 text → hyphen_ends loose text ≡ Some e
     → (h : IsHyphen loose text) × (e ≡ ends_of loose text h)
@@ -147,14 +161,9 @@ hyphen-found loose text e u h =
     let low = end-found loose text a.0 u a.1 in
     let front = low.0.marks ++ low.0.places in
     let whole : text ≡ front ++ a.0.1 = low.0.divided ∙ sym (append_assoc low.0.marks low.0.places a.0.1) in
-    let sign = bind_some (after_some_space a.0.1) _ q.0 q.1 in
-    let s = some_space-is front a.0.1 sign.0 (subst (λ (t : List ℕ). IsUtf8 t) whole u) sign.1 in
-    let g = bind_some (after_byte 45 sign.0) after_some_space q.0 sign.2 in
-    let dash = byte-is 45 sign.0 g.0 g.1 in
-    let w = tail-utf8 45 g.0 (omega arith) (rw dash at (skips-utf8 a.0.1 sign.0 s.2 s.0)) in
-    let t = some_space-is [] g.0 q.0 w g.2 in
-    let up = subst (λ (r : List ℕ). EndRead loose q.0 (l.0.0, r)) (empty_is l.0.1 ended.0) (end-found loose q.0 l.0 (skips-utf8 g.0 q.0 t.2 w) l.1) in (
-      record { before = a.0.1; second = q.0; lower = low.0; dash = (g.0, s.1, rw dash at s.2, t.1, t.2); upper = up.0 },
+    let d = dash-is front a.0.1 q.0 (subst (λ (t : List ℕ). IsUtf8 t) whole u) q.1 in
+    let up = subst (λ (r : List ℕ). EndRead loose q.0 (l.0.0, r)) (empty_is l.0.1 ended.0) (end-found loose q.0 l.0 d.1 l.1) in (
+      record { before = a.0.1; second = q.0; lower = low.0; dash = d.0; upper = up.0 },
       sym (same_Some (a.0.0, b.0) e b.2) ∙ ap₂ (λ (x y : Ended). (x, y)) low.1 (sym ended.1 ∙ up.1),
     )
 
@@ -243,18 +252,6 @@ hyphen-normal loose text e h =
 
 abbrev pub both_capped : Option (Ended × Ended) → Option (Ended × Ended)
 both_capped o = o >>? λ e. Some (capped_in e.0, capped_in e.1)
-
-abbrev one_capped : Option Ended → Option Ended
-one_capped o = o >>? λ e. Some (capped_in e)
-
-abbrev with : Ended → Option Ended → Option (Ended × Ended)
-with a o = o >>? λ b. Some (a, b)
-
--- the ends of what is a hyphen range where the lower one was read
-pub ends-capped : (loose : Bool) (text : List ℕ) (x : Ended × List ℕ) (o : Option Ended) → Some x ≡ first_as capped_in (end_front loose text)
-    → o ≡ (after_dash x.1 >>? λ second. one_capped (last_end loose second)) → with x.0 o ≡ both_capped (hyphen_ends loose text)
-unfolding hyphen_ends
-ends-capped loose text x o read h = grind (arith, nat_tests, common_steps)
 
 -- what stands behind a partial is no longer than the text
 pub partial-le : (loose : Bool) (text : List ℕ) (p : Partial) (rest : List ℕ) → Some (p, rest) ≡ first_as capped_partial (places_front loose text)

@@ -10,9 +10,6 @@ use Rattle.{npm_words.specs.Malformed.{begins_place, more, none}, std.{proofs.Ma
 
 -- ---- the first place
 
-apart-starts : (text : List ℕ) → is_empty text ≡ false → begins is_apart text ≡ false → starts_place text ≡ true
-apart-starts text h k = grind (arith, nat_tests, common_steps)
-
 starts-apart : (text : List ℕ) → starts_place text ≡ true → begins is_apart text ≡ false
 starts-apart text h = grind (arith, nat_tests, common_steps)
 
@@ -20,7 +17,7 @@ abbrev is_placed : List ℕ → Bool
 is_placed text = not (is_empty (from_place text))
 
 starts : (text : List ℕ) → is_placed text ≡ true → starts_place (from_place text) ≡ true
-starts text h = apart-starts (from_place text) (grind arith) (run-ends is_apart text)
+starts text h = grind (arith, nat_tests, common_steps, run-ends is_apart text)
 
 -- what is left is shorter
 less : (text : List ℕ) → is_placed text ≡ true → length (behind_partial (from_place text)) < length text
@@ -53,11 +50,8 @@ first_place text = position (λ b. begins_place (b ∷ [])) text
 first-none : (text : List ℕ) → first_place text ≡ None → is_placed text ≡ false
 first-none text h = grind (arith, nat_tests, common_steps, length-drop)
 
-some-left : (n : ℕ) (text : List ℕ) → n < length text → is_empty (drop n text) ≡ false
-some-left n text h = rw (empty-length (drop n text), length-drop n text) (grind (arith, nat_tests))
-
 first-some : (text : List ℕ) (at : ℕ) → first_place text ≡ Some at → (is_placed text ≡ true) × (take (length text - at) (drop at text) ≡ from_place text)
-first-some text at h = (grind (arith, nat_tests, common_steps, some-left), grind (arith, nat_tests, common_steps, take_rest))
+first-some text at h = (grind (arith, nat_tests, common_steps, empty-length, length-drop), grind (arith, nat_tests, common_steps, take_rest))
 
 module _ (text : List ℕ) where
   pub inside-stops : first_place text ≡ None → (length text == 0) ≡ are_inside (length text) text

@@ -2,7 +2,7 @@
 use Rattle.npm_words.proofs.Common.{Bool, List, [], all_weaker, and_parts, ap, append_assoc, arith, begins, begins_byte, begins_identifier}
 use Rattle.npm_words.proofs.Common.{cases_Bool, common_steps, drop, empty_is, false, has_leading_zero, if◌then◌else◌, inl, inr, is_ascii_digit}
 use Rattle.npm_words.proofs.Common.{is_empty, join_with_byte, length, length-append, length-drop, list_all, nat_tests, not, pieces, prefix_len, refl}
-use Rattle.npm_words.proofs.Common.{suc, sym, take, take-append-drop, true, zero, ℕ, ◌&&◌, ◌++◌, ◌+◌, ◌<◌, ◌==◌, ◌||◌, ◌∙◌, ◌∷◌, ◌≡◌, ◌≤◌}
+use Rattle.npm_words.proofs.Common.{suc, sym, take, take-append-drop, take_rest, true, zero, ℕ, ◌&&◌, ◌++◌, ◌+◌, ◌<◌, ◌==◌, ◌||◌, ◌∙◌, ◌∷◌, ◌≡◌, ◌≤◌}
 use Rattle.npm_words.proofs.Grammar.{PartialLaw.prefix-all, Runs.{run-exact, run-many, steps-go, steps-stop}}
 use Rattle.{npm_words.specs.Internal.Inside.{begins_dotted_id, behind_id, behind_ids}, semver_core.proofs.Reading.Bytes.begins-some}
 use Rattle.semver_core.{proofs.{Reading.Qualifiers.byte-begins, Text.Runs.not_dot}, specs.Text.{Characters.is_identifier_char, Identifiers.goes_on}}
@@ -26,9 +26,6 @@ class c = if is_ascii_digit c then is_ascii_digit else is_identifier_char
 digit-char : (c : ℕ) → is_ascii_digit c ≡ true → is_identifier_char c ≡ true
 digit-char c h = grind (arith, nat_tests, common_steps)
 
-class-char : (c b : ℕ) → class c b ≡ true → is_identifier_char b ≡ true
-class-char c b h = grind (arith, digit-char b)
-
 -- an identifier goes on with its characters, and strictly one `0` alone begins with it
 good-is : (strict : Bool) (c : ℕ) (id : List ℕ) → is_good strict (c ∷ id) ≡ (list_all (class c) (c ∷ id) && (not (strict && (c == 48)) || is_empty id))
 good-is strict c id =
@@ -38,9 +35,6 @@ behind-is : (strict : Bool) (c : ℕ) (text : List ℕ)
     → behind_id strict (c ∷ text) ≡ (if strict && (c == 48) then text else drop (prefix_len (class c) (c ∷ text)) (c ∷ text))
 unfolding behind_id
 behind-is strict c text = grind (arith, nat_tests)
-
-good-chars : (strict : Bool) (id : List ℕ) → is_good strict id ≡ true → list_all is_identifier_char id ≡ true
-good-chars strict id h = grind arith
 
 -- what is left behind something: no more than stood behind it, and exactly that where no identifier goes on
 record Behind (left rest : List ℕ) : Type 0 where
@@ -60,7 +54,7 @@ good-behind strict (c ∷ id) rest h =
     ])
   where
     quiet : (rest : List ℕ) → begins is_identifier_char rest ≡ false → begins (class c) rest ≡ false
-    quiet rest q = grind (arith, class-char c)
+    quiet rest q = grind (arith, digit-char)
 
 pub id-le : (strict : Bool) (text : List ℕ) → length (behind_id strict text) ≤ length text
 unfolding behind_id
@@ -98,6 +92,8 @@ module _ (strict : Bool) (text rest : List ℕ) (e : rest ≡ behind_id strict t
   pub ids-go : (next : List ℕ) → next ≡ drop 1 rest → begins_dotted_id rest ≡ true
       → behind_ids (length text) strict text ≡ behind_ids (length next) strict next
   ids-go next g h = rw (g, e) (steps-go (λ n. behind_ids n strict) _ _ _ (ids-none strict) (ids-step strict) (dot-less strict) text (rw e at h))
+
+pub ruleset ids_steps = (ids-stop, ids-less, take_rest, nat_tests)
 
 -- ---- what is read is a list, and it is the longest
 
@@ -148,7 +144,7 @@ ids-found zero strict text h k = absurd (omega (arith, k, begins-some is_identif
 ids-found (suc n) strict text h k =
     let one = id-found strict text h in
     let rest = behind_id strict text in
-    let each = good-chars strict one.id one.good in
+    let each : list_all is_identifier_char one.id ≡ true = grind (arith, one.good) in
     elim (cases_Bool (begins_dotted_id rest)) [
       | inr stop ↦ rw stop (record { ids = one.id; split = one.split; good = rw (pieces-last one.id each, one.good) refl })
       | inl on ↦

@@ -79,9 +79,6 @@ qualifier-le : (strict : Bool) (text : List ℕ) → length (behind_qualifier st
 qualifier-le strict text = omega (arith, build_front-le (behind_pre_release strict text), pre-le strict text)
 
 -- a text in which no identifiers go on begins no pre-release
-quiet-end : (rest : List ℕ) → goes_on rest ≡ false → begins_identifier rest ≡ false
-quiet-end rest g = grind arith
-
 none-read : (strict : Bool) (rest : List ℕ) → goes_on rest ≡ false → behind_pre_release strict rest ≡ rest
 unfolding behind_pre_release
 none-read strict rest g = grind (arith, nat_tests, and-false)
@@ -94,7 +91,6 @@ bare-end [] rest u q g = cc u
 bare-end (c ∷ ids) rest u q g =
     let whole = ids-ends false (c ∷ ids) rest g in
     let some = ids-le (length rest) false rest in
-    let quiet = quiet-end rest in
     grind (arith, nat_tests)
 
 pre-end : (strict wild : Bool) (pre rest : List ℕ) (l : List Id) → IsPreRelease (not strict) (strict && wild) (fits strict) pre l

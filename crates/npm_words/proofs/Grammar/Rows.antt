@@ -157,6 +157,10 @@ module _ (include padded : Bool) (v : VersionValue) where
 pub noted_valid : (padded : Bool) (c : Comparison) → is_valid MAX_SAFE_INTEGER (noted padded c) ≡ is_valid MAX_SAFE_INTEGER c
 noted_valid padded c = grind (arith, nat_tests, common_steps, bytes_eq-Decides)
 
+pub ruleset lower_ends = (from_none, from_some)
+
+pub ruleset noted_from = (noted_valid, from_valid)
+
 pub under_common : (include : Bool) (n : Numbers) → within n ≡ true → IsCommon include (under n ∷ []) (Spans.< (lowest n))
 under_common include n w = one_common include below (lowest n) _ (whole_readable (lowest n) w refl) (or-true include)
 

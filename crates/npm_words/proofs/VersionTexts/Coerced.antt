@@ -93,6 +93,8 @@ last_before text at d some fits =
     let long = length-take-le at text fits in
     rw (take-append-drop at text, long) at (last-byte is_ascii_digit (take at text) (drop at text) d (omega (arith, long, some)))
 
+pub ruleset last_places = (last_before, take_rest)
+
 -- ---- a tuple with what it goes on with
 
 -- no dot begins a list with its mark
@@ -277,9 +279,7 @@ dots-none [] h = refl
 dots-none (c ∷ a) h = grind (arith, nat_tests, common_steps, dots-none a)
 
 absent-len : (t : List ℕ) (runs : List (List ℕ)) → IsTuple t runs → length (absent runs) ≡ absent_len t
-absent-len t runs (Npm.one a h) = grind (arith, nat_tests, common_steps, dots-none)
-absent-len t runs (Npm.two a b h k) = grind (arith, nat_tests, common_steps, dots-none, sum_by-append)
-absent-len t runs (Npm.three a b c h k m) = grind (arith, nat_tests, common_steps, dots-none, sum_by-append)
+absent-len t runs h = grind (arith, nat_tests, common_steps, dots-none, sum_by-append)
 
 module _ {included : Bool} {text x y z : List ℕ} (is : IsContinuedIn included text x y z) (zeros : Bool) where
   version-is : tuple_len (is.tuple ++ behind is) ≡ length is.tuple

@@ -18,8 +18,7 @@ behind-on : (p : ℕ → Bool) (c : ℕ) (t : List ℕ) → p c ≡ true → dro
 behind-on p c t h = let e : 1 + prefix_len p t ≡ suc (prefix_len p t) = omega arith in rw (h, e) refl
 
 while-off : (p : ℕ → Bool) (t : List ℕ) → begins p t ≡ false → take_while p t ≡ []
-while-off p [] h = refl
-while-off p (c ∷ t) h = rw h refl
+while-off p t h = grind arith
 
 -- what is digits alone goes on, behind these, with nothing
 digits-alone : (t : List ℕ) → list_all is_ascii_digit (take_while is_identifier_char t) ≡ not (begins_identifier (drop (prefix_len is_ascii_digit t) t))
@@ -40,12 +39,9 @@ zero-while (c ∷ d ∷ t) h = grind (arith, nat_tests, while-on is_identifier_c
 pub begins_plain : (strict : Bool) (t : List ℕ) → (strict && begins_padded t) ≡ false → begins_identifier_in strict t ≡ begins_identifier t
 begins_plain strict t h = grind (arith, cases_Bool, is-id, zero-while, and-true)
 
-padded-begins : (t : List ℕ) → begins_padded t ≡ true → begins_identifier t ≡ true
-padded-begins t h = grind (arith, nat_tests)
-
 -- a number with a leading zero goes on, behind its digits, as no number
 pub begins_long : (t : List ℕ) → begins_padded t ≡ true → begins_identifier_in true t ≡ begins_identifier (drop (prefix_len is_ascii_digit t) t)
-begins_long t h = grind (arith, is-id t, zero-while t, digits-alone t, padded-begins t)
+begins_long t h = grind (arith, nat_tests, is-id t, zero-while t, digits-alone t)
 
 pub ruleset identifier_begins = (begins_plain, begins_long, take_rest)
 
@@ -59,8 +55,7 @@ len_step strict text i inside h =
 
 pub len_stop : (strict : Bool) (t : List ℕ) → goes_on_in strict t ≡ false → list_len_in strict t ≡ 0
 unfolding list_len_in
-len_stop strict [] h = refl
-len_stop strict (c ∷ t) h = rw h refl
+len_stop strict t h = grind arith
 
 pub len_past : (strict : Bool) (text : List ℕ) (i : ℕ) → length text ≤ i → list_len_in strict (drop i text) ≡ 0
 unfolding list_len_in
@@ -80,8 +75,7 @@ all-pieces : (p : List ℕ → Bool) (ps : List (List ℕ)) → p (first_piece p
 all-pieces p ps h k = grind arith
 
 on-first : (c : ℕ) (ps : List (List ℕ)) → (first_piece (onto_first c ps) ≡ c ∷ first_piece ps) × (later (onto_first c ps) ≡ later ps)
-on-first c [] = (refl, refl)
-on-first c (p ∷ ps) = (refl, refl)
+on-first c ps = grind arith
 
 quiet-begins : (strict : Bool) (more : List ℕ) → goes_on_in strict more ≡ false → begins_identifier more ≡ false
 quiet-begins strict more h = grind (arith, or_parts)
@@ -197,3 +191,5 @@ stretch_new strict text at to inside e = record {
       let k : at + (i - at) ≡ i = omega arith in
       omega (arith, e, past, rw (drop-drop (i - at) at text, k) at (within strict (drop at text) (i - at) (omega (arith, before, past, e))));
 }
+
+pub ruleset stretches = (stretch_new, take_rest)

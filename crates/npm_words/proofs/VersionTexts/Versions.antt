@@ -123,17 +123,13 @@ patch-read true limit digits rest n h follows =
 marks-read : (loose : Bool) (mark digits rest : List ℕ) → Marks loose mark → 0 < length digits → list_all is_ascii_digit digits ≡ true
     → unmarked loose (mark ++ (digits ++ rest)) ≡ digits ++ rest
 marks-read loose mark [] rest m some each = absurd (omega (arith, some))
-marks-read false mark (c ∷ digits) rest m some each = grind (arith, nat_tests, common_steps, and_parts)
-marks-read true mark (c ∷ digits) rest m some each = grind (arith, nat_tests, common_steps, and_parts, ends-read, solid-dark, component-solid, or_right)
-
-fits-none : (loose : Bool) → fits loose [] ≡ true
-fits-none loose = grind arith
+marks-read loose mark (c ∷ digits) rest m some each = grind (arith, nat_tests, common_steps, and_parts, ends-read, solid-dark, component-solid, or_right)
 
 qualified-read : (loose : Bool) (p b : List ℕ) (v : VersionValue) → IsPreRelease loose false (fits loose) p v.pre_release → IsStrictBuild b v.build
     → qualified_version loose v.major v.minor v.patch (p ++ b) ≡ Some v
 unfolding qualified_version
 qualified-read loose p b v h k =
-    grind (arith, nat_tests, common_steps, append-nil, build-ends b [] v.build k, build-taken b [] v.build k, pre-taken, fits-none loose)
+    grind (arith, nat_tests, common_steps, append-nil, build-ends b [] v.build k, build-taken b [] v.build k, pre-taken)
 
 whole-read : (loose : Bool) (limit : ℕ) (text : List ℕ) (v : VersionValue) → Version loose limit text v → whole_version loose limit text ≡ Some v
 unfolding whole_version

@@ -1,13 +1,7 @@
-use Rattle.nodejs_semver.proofs.Common.{arith, nat_tests, sym, ◌∙◌}
+use Rattle.nodejs_semver.proofs.Common.{sym, ◌∙◌}
 use Rattle.npm_reading.proofs.Grammar.RangeReads.{lower-none, upper-found}
 use Rattle.npm_words.proofs.Common.{end_view, lower_of, upper_of}
 use Rattle.npm_reading.proofs.ranges.between.Goals as goal
-
-pub returns-then-not-is_right : goal.returns-then-not-is_right
-returns-then-not-is_right c = grind (arith, nat_tests)
-
-pub returns-then-not-is_right-2 : goal.returns-then-not-is_right-2
-returns-then-not-is_right-2 c = grind (arith, nat_tests)
 
 pub returns-in_err-from : goal.returns-in_err-from
 returns-in_err-from c =
