@@ -51,65 +51,65 @@ unknown text feed none (Best texts Max) asks = asked_by text _ _ feed none comma
 unknown text feed none (Best texts Min) asks = asked_by text _ _ feed none command.Min asks.0
 
 -- the question about the fields behind a command, where there are as many as it wants, and that there is none else
-pub versions_asked : (asked : AboutVersions) (v w : List ℕ) (texts : List (List ℕ)) → texts ≡ v ∷ w ∷ []
+pub versions_asked : (asked : AboutVersions) {v w : List ℕ} {texts : List (List ℕ)} → texts ≡ v ∷ w ∷ []
     → Asks (versions_word asked ∷ texts) (Versions (v, w) asked)
-versions_asked asked v w texts e = search rules
+versions_asked asked e = search rules
 
-pub range_asked : (asked : AboutRange) (r : List ℕ) (texts : List (List ℕ)) → texts ≡ r ∷ []
+pub range_asked : (asked : AboutRange) {r : List ℕ} {texts : List (List ℕ)} → texts ≡ r ∷ []
     → Asks (range_word asked ∷ texts) (Range r asked)
-range_asked asked r texts e = search rules
+range_asked asked e = search rules
 
-pub ranges_asked : (asked : AboutRanges) (r s : List ℕ) (texts : List (List ℕ)) → texts ≡ r ∷ s ∷ []
+pub ranges_asked : (asked : AboutRanges) {r s : List ℕ} {texts : List (List ℕ)} → texts ≡ r ∷ s ∷ []
     → Asks (ranges_word asked ∷ texts) (Ranges (r, s) asked)
-ranges_asked asked r s texts e = search rules
+ranges_asked asked e = search rules
 
-pub best_asked : (asked : AboutBest) (r vs : List ℕ) (texts : List (List ℕ)) → texts ≡ r ∷ fields vs
+pub best_asked : (asked : AboutBest) {r : List ℕ} (vs : List ℕ) {texts : List (List ℕ)} → texts ≡ r ∷ fields vs
     → Asks (best_word asked ∷ texts) (Best (r, vs) asked)
-best_asked asked r vs texts e = search rules
+best_asked asked vs e = search rules
 
-pub versions_none : (asked : AboutVersions) (texts : List (List ℕ)) → length texts ≢ 2 → (question : Question)
+pub match_asked : (asked : AboutMatch) → IsTwo asked → {r v : List ℕ} {texts : List (List ℕ)} → texts ≡ r ∷ v ∷ []
+    → Asks (match_word asked ∷ texts) (Match (r, v) asked)
+match_asked asked two e = search rules
+
+pub ver_asked : {v : List ℕ} {texts : List (List ℕ)} → texts ≡ v ∷ [] → Asks (codes "ver" ∷ texts) (Version v Ver)
+ver_asked e = (ap (λ l. codes "ver" ∷ l) e, tt)
+
+pub versions_none : (asked : AboutVersions) {texts : List (List ℕ)} → length texts ≢ 2 → (question : Question)
     → Asks (versions_word asked ∷ texts) question → ⊥
-versions_none asked texts none = search rules
+versions_none asked none = search rules
 
-pub range_none : (asked : AboutRange) (texts : List (List ℕ)) → 1 < length texts → (question : Question)
+pub range_none : (asked : AboutRange) {texts : List (List ℕ)} → 1 < length texts → (question : Question)
     → Asks (range_word asked ∷ texts) question → ⊥
-range_none asked texts more = search rules
+range_none asked more = search rules
 
-pub ranges_none : (asked : AboutRanges) (texts : List (List ℕ)) → length texts ≢ 2 → (question : Question)
+pub ranges_none : (asked : AboutRanges) {texts : List (List ℕ)} → length texts ≢ 2 → (question : Question)
     → Asks (ranges_word asked ∷ texts) question → ⊥
-ranges_none asked texts none = search rules
+ranges_none asked none = search rules
 
-pub best_none : (asked : AboutBest) (text : List ℕ) → (question : Question) → Asks (best_word asked ∷ text ∷ []) question → ⊥
+pub match_none : (asked : AboutMatch) → IsTwo asked → {texts : List (List ℕ)} → length texts ≢ 2 → (question : Question)
+    → Asks (match_word asked ∷ texts) question → ⊥
+match_none asked two none = search rules
+
+pub best_none : (asked : AboutBest) (text : List ℕ) (question : Question) → Asks (best_word asked ∷ text ∷ []) question → ⊥
 best_none asked text (Best (r, vs) other) asks = grind (arith, some_field vs)
 best_none asked text question asks = search rules
 
-pub match_asked : (asked : AboutMatch) → IsTwo asked → (r v : List ℕ) (texts : List (List ℕ)) → texts ≡ r ∷ v ∷ []
-    → Asks (match_word asked ∷ texts) (Match (r, v) asked)
-match_asked asked two r v texts e = search rules
+pub ver_none : {texts : List (List ℕ)} → 1 < length texts → (question : Question) → Asks (codes "ver" ∷ texts) question → ⊥
+ver_none more = search rules
 
-pub match_none : (asked : AboutMatch) → IsTwo asked → (texts : List (List ℕ)) → length texts ≢ 2 → (question : Question)
-    → Asks (match_word asked ∷ texts) question → ⊥
-match_none asked two texts none = search rules
+pub inc_none : {texts : List (List ℕ)} → length texts ≡ 1 → (question : Question) → Asks (codes "inc" ∷ texts) question → ⊥
+inc_none one = search rules
 
-pub ver_asked : (v : List ℕ) (texts : List (List ℕ)) → texts ≡ v ∷ [] → Asks (codes "ver" ∷ texts) (Version v Ver)
-ver_asked v texts e = (ap (λ l. codes "ver" ∷ l) e, tt)
-
-pub ver_none : (texts : List (List ℕ)) → 1 < length texts → (question : Question) → Asks (codes "ver" ∷ texts) question → ⊥
-ver_none texts more = search rules
-
-pub inc_none : (texts : List (List ℕ)) → length texts ≡ 1 → (question : Question) → Asks (codes "inc" ∷ texts) question → ⊥
-inc_none texts one = search rules
-
-pub out_none : (texts : List (List ℕ)) → length texts < 3 → (question : Question) → Asks (codes "out" ∷ texts) question → ⊥
-out_none texts few = search rules
-
-pub out_more : (r v : List ℕ) (texts : List (List ℕ)) → 1 < length texts → (question : Question)
-    → Asks (codes "out" ∷ r ∷ v ∷ texts) question → ⊥
-out_more r v texts more = search rules
-
-pub inc_more : (v : List ℕ) (texts : List (List ℕ)) → 3 < length texts → (question : Question)
+pub inc_more : (v : List ℕ) {texts : List (List ℕ)} → 3 < length texts → (question : Question)
     → Asks (codes "inc" ∷ v ∷ texts) question → ⊥
-inc_more v texts more = search rules
+inc_more v more = search rules
+
+pub out_none : {texts : List (List ℕ)} → length texts < 3 → (question : Question) → Asks (codes "out" ∷ texts) question → ⊥
+out_none few = search rules
+
+pub out_more : (r v : List ℕ) {texts : List (List ℕ)} → 1 < length texts → (question : Question)
+    → Asks (codes "out" ∷ r ∷ v ∷ texts) question → ⊥
+out_more r v more = search rules
 
 -- a text that begins with a command
 word_plain : (c : Command) → list_all (λ b. not (is_byte2 59 10 b)) (command_word c) ≡ true
