@@ -1,10 +1,7 @@
 -- Lines that ask no question.
-use Rattle.std.proofs.Common.{rules, ◌≡◌, ◌≢◌, ◌<◌, ◌∙◌, refl, ℕ, List, [], ◌∷◌, ◌++◌, false, codes, get_or, length, arith, sym, ap, append_assoc, not, true}
-use Rattle.std.proofs.lemmas.Bool.{false≢true}
+use Rattle.std.proofs.Common.{rules, ◌≡◌, ◌≢◌, ◌<◌, ◌∙◌, ℕ, List, [], ◌∷◌, ◌++◌, false, codes, length, arith, sym, ap, append_assoc, not, true}
 use Rattle.std.proofs.lemmas.List.Splits.{join_with_byte-slice_split}
-use Rattle.std.proofs.lemmas.Slice.Eq.{bytes_eq-Decides}
 use Rattle.std.specs.List.{All, join_with_byte, list_all}
-use Rattle.std.specs.Str.{bytes_eq}
 use Rattle.semver_answers.specs.Commands.{Asks, Question, Version, Versions, Range, Ranges, Match, Best}
 use Rattle.semver_answers.specs.Internal.CommandWords.{IsUnknown, command_word}
 use Rattle.semver_answers.specs.Internal.KindWords.{IsTwo, best_word, match_word, range_word, ranges_word, versions_word}
