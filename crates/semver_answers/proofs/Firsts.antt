@@ -1,6 +1,6 @@
 -- The first field and the first line of a text, and what stands behind them.
 use Rattle.std.proofs.Common.{◌≡◌, ◌==◌, ◌<◌, ◌≤◌, ◌+◌, ◌∙◌, ◌++◌, ◌∷◌, ◌&&◌, ℕ, Bool, suc, true, false, not, List, [], Some}
-use Rattle.std.proofs.Common.{None, append-nil, length, take, drop, get_or, refl, sym, ap, arith}
+use Rattle.std.proofs.Common.{None, add-one, append-nil, length, take, drop, get_or, refl, sym, ap, arith}
 use Rattle.memchr.specs.Find.{IsFirstByte, is_byte, is_byte2}
 use Rattle.std.proofs.Math.Seq.{drop-cons, get_or-append_seam, split_at, take-append_seam}
 use Rattle.std.proofs.lemmas.Bool.Decides.{nat_tests}
@@ -32,10 +32,7 @@ nowhere p text h = All-from_get_or (λ x. p x ≡ false) text 0 (λ i k. false_f
 
 -- a text is cut at a place
 pub cut_at : (text : List ℕ) (n : ℕ) → n < length text → text ≡ take n text ++ get_or text n 0 ∷ drop (n + 1) text
-cut_at text n inside =
-    let next : suc n ≡ n + 1 = omega arith in
-    let split = split_at text n 0 inside in
-    rw next at split
+cut_at text n inside = rw add-one (split_at text n 0 inside)
 
 -- a byte that is found stands there, and nowhere before it
 pub nowhere_before : (p : ℕ → Bool) (text : List ℕ) (n : ℕ) → IsFirstByte p text (Some n) → All (λ x. p x ≡ false) (take n text)
@@ -95,6 +92,8 @@ line_alone text n h =
     let plain = nowhere_before (is_byte 10) text n h in
     let whole : take (n + 1) text ≡ take n text ++ 10 ∷ [] = rw (take_more text n 0 h.0.high, eqb-true (get_or text n 0) 10 h.1) refl in
     (ap behind_line whole ∙ (line_ends (take n text) [] plain).1, ap no_feed whole ∙ feed_in (take n text) (10 ∷ []) plain)
+
+pub ruleset alone = (none_found, line_alone)
 
 -- a line that goes on
 pub longer : (begun end : List ℕ) → no_feed begun ≡ true → (first_line (begun ++ end) ≡ begun ++ first_line end) × (behind_line (begun ++ end) ≡ behind_line end)
@@ -211,7 +210,7 @@ pub word_grows : (text : List ℕ) (n : ℕ) → n < length text → 59 < get_or
 word_grows text n inside char plain =
     rw (list_any_more (is_byte2 59 10) text n 0 inside, plain, word_plain (get_or text n 0) char) refl
 
-pub ruleset words = (before_mark, word_grows)
+pub ruleset words = (before_mark, unmarked, word_grows)
 
 -- a mark stands where a field ends, unless it is the end of the text
 pub end_marked : (text : List ℕ) (n : ℕ) → n < length text → ends_field (drop n text) ≡ true → is_byte2 59 10 (get_or text n 0) ≡ true
@@ -233,14 +232,11 @@ pub ends_cut : (text : List ℕ) (n : ℕ) → n < length text → is_byte 10 (g
 ends_cut text n inside feed = rw (take_more text n 0 inside, eqb-true (get_or text n 0) 10 feed) (ends_last (take n text))
 
 -- some whole lines have a line feed, and behind the first of them there are whole lines again
-pub whole_feed : (c : ℕ) (rest : List ℕ) → ends_whole (c ∷ rest) ≡ true → HasFeed (c ∷ rest)
-unfolding ends_whole
-whole_feed c [] h = rw h refl
-whole_feed c (d ∷ rest) h = and_right (not (c == 10)) (no_feed (d ∷ rest)) (whole_feed d rest h)
-
 pub whole_has : (text : List ℕ) → ends_whole text ≡ true → 0 < length text → HasFeed text
+unfolding ends_whole
 whole_has [] h some = absurd (omega (arith, some))
-whole_has (c ∷ rest) h some = whole_feed c rest h
+whole_has (c ∷ []) h some = rw h refl
+whole_has (c ∷ d ∷ rest) h some = and_right (not (c == 10)) (no_feed (d ∷ rest)) (whole_has (d ∷ rest) h (omega arith))
 
 -- and it is shorter
 pub behind_shorter : (text : List ℕ) → HasFeed text → length (behind_line text) < length text

@@ -90,6 +90,7 @@ impl Lines {
 }
 
 // The first line with its line feed, and what stands behind it; `None` where there is none.
+#[tactic(auto, using(crate::proofs::Firsts::alone))]
 fn first_line(bytes: &[u8]) -> Option<(&[u8], &[u8])>
     ensures some { IfSome result (λ cut. bytes.now ≡ cut.0.now ++ cut.1.now) }
     ensures feed { IfSome result (λ cut. HasFeed cut.0.now) }

@@ -1,15 +1,7 @@
-use Rattle.std.proofs.Common.{sym, take, ◌∙◌}
+use Rattle.std.proofs.Common.{sym, ◌∙◌}
 use Rattle.std.proofs.lemmas.Bool.{false≢true}
-use Rattle.semver_answers.proofs.Firsts.{before_mark, end_marked, unmarked}
+use Rattle.semver_answers.proofs.Firsts.{before_mark, end_marked}
 use Rattle.semver_answers.proofs.fields.range_field.Goals as goal
-
-pub mark_at-requires-clause-inside : goal.mark_at-requires-clause-inside
-mark_at-requires-clause-inside c =
-    before_mark c.args.text.now c.read_field-end.result.1 c.requires c.read_field-end.ensures.place c.read_field-end.ensures.plain
-
-pub mark_at-requires-clause-plain : goal.mark_at-requires-clause-plain
-mark_at-requires-clause-plain c =
-    unmarked (take c.read_field-end.result.1 c.args.text.now) c.read_field-end.ensures.plain
 
 pub unreachable-requires : goal.unreachable-requires
 unreachable-requires c =
