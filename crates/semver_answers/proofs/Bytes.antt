@@ -1,6 +1,6 @@
 -- The bytes of short texts as numbers, and what is put behind the output.
 use Rattle.std.proofs.Common.{◌≡◌, ◌<◌, ◌≤◌, ◌+◌, ◌*◌, ◌/◌, ◌%◌, ◌^◌, ◌++◌, ◌∷◌, ◌∙◌, ℕ, Bool, suc, zero, true, List, [], refl, ap, arith, take, length, length-append}
-use Rattle.std.proofs.Common.{append-nil, append_assoc, ltb-true, w64, sym, Result, Ok, Err, OnErr}
+use Rattle.std.proofs.Common.{append-nil, append_assoc, ltb-true, w64, sym}
 use Rattle.std.proofs.lemmas.{Bool.{and_parts, Decides.{nat_tests}}, Fmt.{decimal_digit, decimal_step}}
 use Rattle.std.proofs.lemmas.List.Folds.{list_all-append}
 use Rattle.std.proofs.Math.Seq.{take-append_seam}
@@ -112,7 +112,3 @@ cut_back old new n e (more, grown) = rw (e, grown) (take-append_seam old more)
 
 pub onward : (old mid new : List ℕ) → Extends old mid → Extends mid new → Extends old new
 onward old mid new (more, grown) h = goes_on old mid new more grown h
-
-pub failed : {A E : Type 0} (r : Result A E) (P : Type 0) → P → OnErr r P
-failed (Ok value) P p = tt
-failed (Err error) P p = p

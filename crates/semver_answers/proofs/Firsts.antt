@@ -1,5 +1,5 @@
 -- The first field and the first line of a text, and what stands behind them.
-use Rattle.std.proofs.Common.{◌≡◌, ◌==◌, ◌<◌, ◌≤◌, ◌+◌, ◌∙◌, ◌++◌, ◌∷◌, ◌&&◌, ℕ, Bool, suc, true, false, not, List, [], Some}
+use Rattle.std.proofs.Common.{◌≡◌, ◌==◌, ◌<◌, ◌≤◌, ◌+◌, ◌∙◌, ◌++◌, ◌∷◌, ◌&&◌, ℕ, Bool, true, false, not, List, [], Some}
 use Rattle.std.proofs.Common.{None, add-one, append-nil, length, take, drop, get_or, refl, sym, ap, arith}
 use Rattle.memchr.specs.Find.{IsFirstByte, is_byte, is_byte2}
 use Rattle.std.proofs.Math.Seq.{drop-cons, get_or-append_seam, split_at, take-append_seam}
@@ -210,11 +210,11 @@ pub word_grows : (text : List ℕ) (n : ℕ) → n < length text → 59 < get_or
 word_grows text n inside char plain =
     rw (list_any_more (is_byte2 59 10) text n 0 inside, plain, word_plain (get_or text n 0) char) refl
 
-pub ruleset words = (before_mark, unmarked, word_grows)
-
 -- a mark stands where a field ends, unless it is the end of the text
 pub end_marked : (text : List ℕ) (n : ℕ) → n < length text → ends_field (drop n text) ≡ true → is_byte2 59 10 (get_or text n 0) ≡ true
 end_marked text n inside h = rw (drop-cons text n 0 inside) at h
+
+pub ruleset words = (before_mark, unmarked, word_grows, end_marked)
 
 -- ---- whole lines
 

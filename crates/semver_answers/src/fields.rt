@@ -73,6 +73,7 @@ pub(crate) fn cut_word(text: &str) -> (&str, Behind<'_>)
 }
 
 /// The text behind the first line.
+#[tactic(auto, using(crate::proofs::Firsts::none_found))]
 pub(crate) fn behind_line(text: &str) -> &str
     requires { HasFeed text.now }
     ensures { IsNext text.now result }
