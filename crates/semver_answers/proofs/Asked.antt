@@ -1,10 +1,7 @@
 -- Lines that ask no question.
-use Rattle.std.proofs.Common.{rules, ◌≡◌, ◌≢◌, ◌<◌, ◌∙◌, refl, ℕ, List, [], ◌∷◌, ◌++◌, false, codes, get_or, length, arith, sym, ap, append_assoc, not, true}
-use Rattle.std.proofs.lemmas.Bool.{false≢true}
+use Rattle.std.proofs.Common.{rules, ◌≡◌, ◌≢◌, ◌<◌, ◌∙◌, ℕ, List, [], ◌∷◌, ◌++◌, false, codes, length, arith, sym, ap, append_assoc, not, true}
 use Rattle.std.proofs.lemmas.List.Splits.{join_with_byte-slice_split}
-use Rattle.std.proofs.lemmas.Slice.Eq.{bytes_eq-Decides}
 use Rattle.std.specs.List.{All, join_with_byte, list_all}
-use Rattle.std.specs.Str.{bytes_eq}
 use Rattle.semver_answers.specs.Commands.{Asks, Question, Version, Versions, Range, Ranges, Match, Best}
 use Rattle.semver_answers.specs.Internal.CommandWords.{IsUnknown, command_word}
 use Rattle.semver_answers.specs.Internal.KindWords.{IsTwo, best_word, match_word, range_word, ranges_word, versions_word}
@@ -50,97 +47,66 @@ unknown text feed none (Match texts (Out side)) asks = asked_by text _ _ feed no
 unknown text feed none (Best texts Max) asks = asked_by text _ _ feed none command.Max asks.0
 unknown text feed none (Best texts Min) asks = asked_by text _ _ feed none command.Min asks.0
 
--- another command
-other : (word first : List ℕ) (texts others : List (List ℕ)) → bytes_eq word first ≡ false → word ∷ texts ≡ first ∷ others → ⊥
-other word first texts others differs e =
-    false≢true (sym differs ∙ (bytes_eq-Decides word first).1 (ap (λ l. get_or l 0 []) e))
-
--- one text behind `max` or `min`, which ask for a version
-pub no_version : (word text : List ℕ) → bytes_eq word (codes "ver") ≡ false → bytes_eq word (codes "range") ≡ false
-    → bytes_eq word (codes "least") ≡ false → (question : Question) → Asks (word ∷ text ∷ []) question → ⊥
-no_version word text ver range least (Version v Ver) asks = other word _ _ _ ver asks.0
-no_version word text ver range least (Range r Print) asks = other word _ _ _ range asks.0
-no_version word text ver range least (Range r Least) asks = other word _ _ _ least asks.0
-no_version word text ver range least (Versions texts Cmp) asks = omega (arith, ap length asks.0)
-no_version word text ver range least (Ranges texts And) asks = omega (arith, ap length asks.0)
-no_version word text ver range least (Match texts Sat) asks = omega (arith, ap length asks.0)
-no_version word text ver range least (Best (r, vs) Max) asks = omega (arith, ap length asks.0, some_field vs)
-no_version word text ver range least (Best (r, vs) Min) asks = omega (arith, ap length asks.0, some_field vs)
-no_version word text ver range least question asks = omega (arith, ap length asks.0)
-
 -- the question about the fields behind a command, where there are as many as it wants, and that there is none else
-pub versions_asked : (asked : AboutVersions) (v w : List ℕ) (texts : List (List ℕ)) → texts ≡ v ∷ w ∷ []
+pub versions_asked : (asked : AboutVersions) {v w : List ℕ} {texts : List (List ℕ)} → texts ≡ v ∷ w ∷ []
     → Asks (versions_word asked ∷ texts) (Versions (v, w) asked)
-versions_asked Cmp v w texts e = (ap (λ l. codes "cmp" ∷ l) e, tt)
-versions_asked Diff v w texts e = (ap (λ l. codes "diff" ∷ l) e, tt)
+versions_asked asked e = search rules
 
-pub range_asked : (asked : AboutRange) (r : List ℕ) (texts : List (List ℕ)) → texts ≡ r ∷ []
+pub range_asked : (asked : AboutRange) {r : List ℕ} {texts : List (List ℕ)} → texts ≡ r ∷ []
     → Asks (range_word asked ∷ texts) (Range r asked)
-range_asked Print r texts e = (ap (λ l. codes "range" ∷ l) e, tt)
-range_asked Least r texts e = (ap (λ l. codes "least" ∷ l) e, tt)
+range_asked asked e = search rules
 
-pub ranges_asked : (asked : AboutRanges) (r s : List ℕ) (texts : List (List ℕ)) → texts ≡ r ∷ s ∷ []
+pub ranges_asked : (asked : AboutRanges) {r s : List ℕ} {texts : List (List ℕ)} → texts ≡ r ∷ s ∷ []
     → Asks (ranges_word asked ∷ texts) (Ranges (r, s) asked)
-ranges_asked And r s texts e = (ap (λ l. codes "and" ∷ l) e, tt)
-ranges_asked Minus r s texts e = (ap (λ l. codes "minus" ∷ l) e, tt)
-ranges_asked Beyond r s texts e = (ap (λ l. codes "beyond" ∷ l) e, tt)
+ranges_asked asked e = search rules
 
-pub best_asked : (asked : AboutBest) (r vs : List ℕ) (texts : List (List ℕ)) → texts ≡ r ∷ fields vs
+pub best_asked : (asked : AboutBest) {r : List ℕ} (vs : List ℕ) {texts : List (List ℕ)} → texts ≡ r ∷ fields vs
     → Asks (best_word asked ∷ texts) (Best (r, vs) asked)
-best_asked Max r vs texts e = (ap (λ l. codes "max" ∷ l) e, tt)
-best_asked Min r vs texts e = (ap (λ l. codes "min" ∷ l) e, tt)
+best_asked asked vs e = search rules
 
-pub versions_none : (asked : AboutVersions) (texts : List (List ℕ)) → length texts ≢ 2 → (question : Question)
-    → Asks (versions_word asked ∷ texts) question → ⊥
-versions_none Cmp texts none = search rules
-versions_none Diff texts none = search rules
-
-pub range_none : (asked : AboutRange) (texts : List (List ℕ)) → 1 < length texts → (question : Question)
-    → Asks (range_word asked ∷ texts) question → ⊥
-range_none Print texts more = search rules
-range_none Least texts more = search rules
-
-pub ranges_none : (asked : AboutRanges) (texts : List (List ℕ)) → length texts ≢ 2 → (question : Question)
-    → Asks (ranges_word asked ∷ texts) question → ⊥
-ranges_none And texts none = search rules
-ranges_none Minus texts none = search rules
-ranges_none Beyond texts none = search rules
-
-pub best_none : (asked : AboutBest) (text : List ℕ) → (question : Question) → Asks (best_word asked ∷ text ∷ []) question → ⊥
-best_none Max text = no_version (codes "max") text refl refl refl
-best_none Min text = no_version (codes "min") text refl refl refl
-
-pub match_asked : (asked : AboutMatch) → IsTwo asked → (r v : List ℕ) (texts : List (List ℕ)) → texts ≡ r ∷ v ∷ []
+pub match_asked : (asked : AboutMatch) → IsTwo asked → {r v : List ℕ} {texts : List (List ℕ)} → texts ≡ r ∷ v ∷ []
     → Asks (match_word asked ∷ texts) (Match (r, v) asked)
-match_asked Sat two r v texts e = (ap (λ l. codes "sat" ∷ l) e, tt)
-match_asked Pre two r v texts e = (ap (λ l. codes "pre" ∷ l) e, tt)
-match_asked (Out side) two r v texts e = absurd two
+match_asked asked two e = search rules
 
-pub match_none : (asked : AboutMatch) → IsTwo asked → (texts : List (List ℕ)) → length texts ≢ 2 → (question : Question)
+pub ver_asked : {v : List ℕ} {texts : List (List ℕ)} → texts ≡ v ∷ [] → Asks (codes "ver" ∷ texts) (Version v Ver)
+ver_asked e = (ap (λ l. codes "ver" ∷ l) e, tt)
+
+pub versions_none : (asked : AboutVersions) {texts : List (List ℕ)} → length texts ≢ 2 → (question : Question)
+    → Asks (versions_word asked ∷ texts) question → ⊥
+versions_none asked none = search rules
+
+pub range_none : (asked : AboutRange) {texts : List (List ℕ)} → 1 < length texts → (question : Question)
+    → Asks (range_word asked ∷ texts) question → ⊥
+range_none asked more = search rules
+
+pub ranges_none : (asked : AboutRanges) {texts : List (List ℕ)} → length texts ≢ 2 → (question : Question)
+    → Asks (ranges_word asked ∷ texts) question → ⊥
+ranges_none asked none = search rules
+
+pub match_none : (asked : AboutMatch) → IsTwo asked → {texts : List (List ℕ)} → length texts ≢ 2 → (question : Question)
     → Asks (match_word asked ∷ texts) question → ⊥
-match_none Sat two texts none = search rules
-match_none Pre two texts none = search rules
-match_none (Out side) two texts none = absurd two
+match_none asked two none = search rules
 
-pub ver_asked : (v : List ℕ) (texts : List (List ℕ)) → texts ≡ v ∷ [] → Asks (codes "ver" ∷ texts) (Version v Ver)
-ver_asked v texts e = (ap (λ l. codes "ver" ∷ l) e, tt)
+pub best_none : (asked : AboutBest) (text : List ℕ) (question : Question) → Asks (best_word asked ∷ text ∷ []) question → ⊥
+best_none asked text (Best (r, vs) other) asks = grind (arith, some_field vs)
+best_none asked text question asks = search rules
 
-pub ver_none : (texts : List (List ℕ)) → 1 < length texts → (question : Question) → Asks (codes "ver" ∷ texts) question → ⊥
-ver_none texts more = search rules
+pub ver_none : {texts : List (List ℕ)} → 1 < length texts → (question : Question) → Asks (codes "ver" ∷ texts) question → ⊥
+ver_none more = search rules
 
-pub inc_none : (texts : List (List ℕ)) → length texts ≡ 1 → (question : Question) → Asks (codes "inc" ∷ texts) question → ⊥
-inc_none texts one = search rules
+pub inc_none : {texts : List (List ℕ)} → length texts ≡ 1 → (question : Question) → Asks (codes "inc" ∷ texts) question → ⊥
+inc_none one = search rules
 
-pub out_none : (texts : List (List ℕ)) → length texts < 3 → (question : Question) → Asks (codes "out" ∷ texts) question → ⊥
-out_none texts few = search rules
-
-pub out_more : (r v : List ℕ) (texts : List (List ℕ)) → 1 < length texts → (question : Question)
-    → Asks (codes "out" ∷ r ∷ v ∷ texts) question → ⊥
-out_more r v texts more = search rules
-
-pub inc_more : (v : List ℕ) (texts : List (List ℕ)) → 3 < length texts → (question : Question)
+pub inc_more : (v : List ℕ) {texts : List (List ℕ)} → 3 < length texts → (question : Question)
     → Asks (codes "inc" ∷ v ∷ texts) question → ⊥
-inc_more v texts more = search rules
+inc_more v more = search rules
+
+pub out_none : {texts : List (List ℕ)} → length texts < 3 → (question : Question) → Asks (codes "out" ∷ texts) question → ⊥
+out_none few = search rules
+
+pub out_more : (r v : List ℕ) {texts : List (List ℕ)} → 1 < length texts → (question : Question)
+    → Asks (codes "out" ∷ r ∷ v ∷ texts) question → ⊥
+out_more r v more = search rules
 
 -- a text that begins with a command
 word_plain : (c : Command) → list_all (λ b. not (is_byte2 59 10 b)) (command_word c) ≡ true

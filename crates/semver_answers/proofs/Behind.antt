@@ -7,34 +7,35 @@ use Rattle.semver_answers.specs.declared.fields.Behind.TheVariants.{Fields, Line
 use Rattle.semver_answers.proofs.Firsts.{some_field_ahead}
 
 -- the line ends there, or goes on with more fields
-pub single : (texts field : List ℕ) (behind : Behind) (next : Bor (List ℕ)) → Cuts texts field behind → behind ≡ Lines next
+pub single : {texts field : List ℕ} {behind : Behind} {next : Bor (List ℕ)} → Cuts texts field behind → behind ≡ Lines next
     → fields_ahead texts ≡ field ∷ []
-single texts field behind next c e = rw e at c.first
+single c e = rw e at c.first
 
-pub onward : (texts field : List ℕ) (behind : Behind) (rest : Bor (List ℕ)) → Cuts texts field behind → behind ≡ Fields rest
+pub onward : {texts field : List ℕ} {behind : Behind} {rest : Bor (List ℕ)} → Cuts texts field behind → behind ≡ Fields rest
     → fields_ahead texts ≡ field ∷ fields_ahead rest.now
-onward texts field behind rest c e = rw e at c.first
+onward c e = rw e at c.first
 
-pub several : (texts field : List ℕ) (behind : Behind) (rest : Bor (List ℕ)) → Cuts texts field behind → behind ≡ Fields rest
+pub several : {texts field : List ℕ} {behind : Behind} {rest : Bor (List ℕ)} → Cuts texts field behind → behind ≡ Fields rest
     → 1 < length (fields_ahead texts)
-several texts field behind rest c e = omega (arith, ap length (onward texts field behind rest c e), some_field_ahead rest.now)
+several {rest} c e = omega (arith, ap length (onward c e), some_field_ahead rest.now)
 
 -- the text behind the line
-pub next_line : (texts field : List ℕ) (behind : Behind) (next : Bor (List ℕ)) → Cuts texts field behind → behind ≡ Lines next → IsNext texts next
-next_line texts field behind next c e = (sym (rw e at c.next), rw e at c.goes_on)
+pub next_line : {texts field : List ℕ} {behind : Behind} {next : Bor (List ℕ)} → Cuts texts field behind → behind ≡ Lines next → IsNext texts next
+next_line c e = (sym (rw e at c.next), rw e at c.goes_on)
 
 -- two fields, and what stands behind them
-pub pair : (texts field other : List ℕ) (behind last : Behind) (rest next : Bor (List ℕ)) → Cuts texts field behind → behind ≡ Fields rest
+pub pair : {texts field other : List ℕ} {behind last : Behind} {rest next : Bor (List ℕ)} → Cuts texts field behind → behind ≡ Fields rest
     → Cuts rest.now other last → last ≡ Lines next → fields_ahead texts ≡ field ∷ other ∷ []
-pair texts field other behind last rest next c e d f = onward texts field behind rest c e ∙ ap (λ l. field ∷ l) (single rest.now other last next d f)
+pair {field} c e d f = onward c e ∙ ap (λ l. field ∷ l) (single d f)
 
-pub three : (texts field other : List ℕ) (behind last : Behind) (rest next : Bor (List ℕ)) → Cuts texts field behind → behind ≡ Fields rest
+pub three : {texts field other : List ℕ} {behind last : Behind} {rest next : Bor (List ℕ)} → Cuts texts field behind → behind ≡ Fields rest
     → Cuts rest.now other last → last ≡ Fields next → fields_ahead texts ≡ field ∷ other ∷ fields_ahead next.now
-three texts field other behind last rest next c e d f = onward texts field behind rest c e ∙ ap (λ l. field ∷ l) (onward rest.now other last next d f)
+three {field} c e d f = onward c e ∙ ap (λ l. field ∷ l) (onward d f)
 
-pub one_is_not_two : (texts field : List ℕ) → fields_ahead texts ≡ field ∷ [] → length (fields_ahead texts) ≢ 2
-one_is_not_two texts field e = λ two. omega (arith, ap length e, two)
-
-pub three_is_not_two : (texts field other next : List ℕ) → fields_ahead texts ≡ field ∷ other ∷ fields_ahead next
+pub one_is_not_two : {texts field : List ℕ} {behind : Behind} {next : Bor (List ℕ)} → Cuts texts field behind → behind ≡ Lines next
     → length (fields_ahead texts) ≢ 2
-three_is_not_two texts field other next e = λ two. omega (arith, ap length e, some_field_ahead next, two)
+one_is_not_two c e = λ two. omega (arith, ap length (single c e), two)
+
+pub three_are_not_two : {texts field other : List ℕ} {behind last : Behind} {rest next : Bor (List ℕ)} → Cuts texts field behind
+    → behind ≡ Fields rest → Cuts rest.now other last → last ≡ Fields next → length (fields_ahead texts) ≢ 2
+three_are_not_two {next} c e d f = λ two. omega (arith, ap length (three c e d f), some_field_ahead next.now, two)

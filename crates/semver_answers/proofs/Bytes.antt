@@ -1,7 +1,7 @@
 -- The bytes of short texts as numbers, and what is put behind the output.
-use Rattle.std.proofs.Common.{◌≡◌, ◌<◌, ◌≤◌, ◌+◌, ◌*◌, ◌/◌, ◌%◌, ◌^◌, ◌++◌, ◌∷◌, ◌∙◌, ℕ, Bool, suc, zero, true, List, [], inl, inr, refl, ap, arith, take, length, length-append}
-use Rattle.std.proofs.Common.{append-nil, append_assoc, lt-ltb, ltb-true, w64, sym, Result, Ok, Err, OnErr}
-use Rattle.std.proofs.lemmas.{Bool.{and_parts, cases_lt}, Fmt.{decimal_digit, decimal_step}}
+use Rattle.std.proofs.Common.{◌≡◌, ◌<◌, ◌≤◌, ◌+◌, ◌*◌, ◌/◌, ◌%◌, ◌^◌, ◌++◌, ◌∷◌, ◌∙◌, ℕ, Bool, suc, zero, true, List, [], refl, ap, arith, take, length, length-append}
+use Rattle.std.proofs.Common.{append-nil, append_assoc, ltb-true, w64, sym}
+use Rattle.std.proofs.lemmas.{Bool.{and_parts, Decides.{nat_tests}}, Fmt.{decimal_digit, decimal_step}}
 use Rattle.std.proofs.lemmas.List.Folds.{list_all-append}
 use Rattle.std.proofs.Math.Seq.{take-append_seam}
 use Rattle.std.proofs.Math.Nat.{div-div-eq-div-mul}
@@ -80,15 +80,7 @@ low_bytes (c ∷ rest) (suc k) each le =
     rw (here, bytes_shift 0 k (c + 256 * le_value rest), next) (ap (λ t. c ∷ t) more)
 
 decimal_bytes : (n : ℕ) → n < 100 → list_all is_byte (decimal n) ≡ true
-decimal_bytes n lt = elim (cases_lt n 10) [
-  | inl small ↦
-      let one : nat_lt (48 + n) 256 ≡ true = lt-ltb (48 + n) 256 (omega arith) in
-      rw (decimal_digit n small, one) refl
-  | inr big ↦
-      let one : nat_lt (48 + n / 10) 256 ≡ true = lt-ltb (48 + n / 10) 256 (omega arith) in
-      let two : nat_lt (48 + n % 10) 256 ≡ true = lt-ltb (48 + n % 10) 256 (omega arith) in
-      rw (text_two n big lt, one, two) refl
-]
+decimal_bytes n lt = grind (arith, nat_tests, decimal_digit n, text_two n)
 
 release_bytes : (a b c : ℕ) → a < 100 → b < 100 → c < 100 → list_all is_byte (release_text a b c) ≡ true
 release_bytes a b c la lb lc =
@@ -120,7 +112,3 @@ cut_back old new n e (more, grown) = rw (e, grown) (take-append_seam old more)
 
 pub onward : (old mid new : List ℕ) → Extends old mid → Extends mid new → Extends old new
 onward old mid new (more, grown) h = goes_on old mid new more grown h
-
-pub failed : {A E : Type 0} (r : Result A E) (P : Type 0) → P → OnErr r P
-failed (Ok value) P p = tt
-failed (Err error) P p = p

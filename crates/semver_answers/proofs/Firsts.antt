@@ -1,11 +1,10 @@
 -- The first field and the first line of a text, and what stands behind them.
-use Rattle.std.proofs.Common.{◌≡◌, ◌==◌, ◌<◌, ◌≤◌, ◌+◌, ◌∙◌, ◌++◌, ◌∷◌, ◌&&◌, ◌||◌, ℕ, Bool, suc, true, false, not, List, [], Some}
-use Rattle.std.proofs.Common.{None, append-nil, length, take, drop, get_or, refl, sym, ap, arith, inl, inr}
+use Rattle.std.proofs.Common.{◌≡◌, ◌==◌, ◌<◌, ◌≤◌, ◌+◌, ◌∙◌, ◌++◌, ◌∷◌, ◌&&◌, ℕ, Bool, true, false, not, List, [], Some}
+use Rattle.std.proofs.Common.{None, add-one, append-nil, length, take, drop, get_or, refl, sym, ap, arith}
 use Rattle.memchr.specs.Find.{IsFirstByte, is_byte, is_byte2}
-use Rattle.std.proofs.Math.Nat.{eq-or-lt_of_le}
 use Rattle.std.proofs.Math.Seq.{drop-cons, get_or-append_seam, split_at, take-append_seam}
 use Rattle.std.proofs.lemmas.Bool.Decides.{nat_tests}
-use Rattle.std.proofs.lemmas.Bool.{and_right, cases_Bool, eqb-true, false_from_ne_true, false≢true, not-true}
+use Rattle.std.proofs.lemmas.Bool.{and_right, eqb-true, false_from_ne_true, false≢true, not-true}
 use Rattle.std.proofs.lemmas.List.{get_or-take, length-append, length-take, length-take-le, take-append-drop, take-take, take_all, take_more}
 use Rattle.std.proofs.lemmas.List.Elements.{All-from_get_or, All-head, All-tail}
 use Rattle.std.proofs.lemmas.List.Folds.{list_all-append, list_any_at, list_any_more}
@@ -33,10 +32,7 @@ nowhere p text h = All-from_get_or (λ x. p x ≡ false) text 0 (λ i k. false_f
 
 -- a text is cut at a place
 pub cut_at : (text : List ℕ) (n : ℕ) → n < length text → text ≡ take n text ++ get_or text n 0 ∷ drop (n + 1) text
-cut_at text n inside =
-    let next : suc n ≡ n + 1 = omega arith in
-    let split = split_at text n 0 inside in
-    rw next at split
+cut_at text n inside = rw add-one (split_at text n 0 inside)
 
 -- a byte that is found stands there, and nowhere before it
 pub nowhere_before : (p : ℕ → Bool) (text : List ℕ) (n : ℕ) → IsFirstByte p text (Some n) → All (λ x. p x ≡ false) (take n text)
@@ -45,9 +41,7 @@ nowhere_before p text n h = All-from_get_or (λ x. p x ≡ false) (take n text) 
     ap p (get_or-take n text i 0 here) ∙ false_from_ne_true _ (h.0.before i (omega arith) here))
 
 pub all_fail : (p : ℕ → Bool) (text : List ℕ) → list_all (λ b. not (p b)) text ≡ true → All (λ b. p b ≡ false) text
-all_fail p text h =
-    let each = AllPass-from_list_all (λ b. not (p b)) text h in
-    All-from_get_or (λ b. p b ≡ false) text 0 (λ i inside. not-true (p (get_or text i 0)) (each i 0 inside))
+all_fail p text h k d inside = not-true _ (AllPass-from_list_all (λ b. not (p b)) text h k d inside)
 
 no_feed_by : (text : List ℕ) → All (λ b. (b == 10) ≡ false) text → no_feed text ≡ true
 no_feed_by text h = list_all-from_AllPass (λ b. not (b == 10)) text (λ k d inside. ap not (h k d inside))
@@ -57,17 +51,11 @@ pub none_found : (text : List ℕ) → IsFirstByte (is_byte 10) text None → no
 none_found text h = no_feed_by text (nowhere (is_byte 10) text h)
 
 -- a byte that is no mark of a field
-plain_both : (b : ℕ) → is_byte2 59 10 b ≡ false → ((b == 59) ≡ false) × ((b == 10) ≡ false)
-plain_both b h = elim (cases_Bool (b == 59)) [
-  | inl mark ↦ absurd (false≢true (sym h ∙ ap (λ x. x || (b == 10)) mark))
-  | inr other ↦ (other, sym (ap (λ x. x || (b == 10)) other) ∙ h)
-]
-
 no_semicolon : (text : List ℕ) → All (λ b. is_byte2 59 10 b ≡ false) text → All (λ b. (b == 59) ≡ false) text
-no_semicolon text h k d inside = (plain_both _ (h k d inside)).0
+no_semicolon text h k d inside = grind (arith, nat_tests, h k d inside)
 
 no_line_feed : (text : List ℕ) → All (λ b. is_byte2 59 10 b ≡ false) text → All (λ b. (b == 10) ≡ false) text
-no_line_feed text h k d inside = (plain_both _ (h k d inside)).1
+no_line_feed text h k d inside = grind (arith, nat_tests, h k d inside)
 
 pub none_of_both : (text : List ℕ) → IsFirstByte (is_byte2 59 10) text None → no_feed text ≡ true
 none_of_both text h = no_feed_by text (no_line_feed text (nowhere (is_byte2 59 10) text h))
@@ -78,9 +66,8 @@ none_of_both text h = no_feed_by text (no_line_feed text (nowhere (is_byte2 59 1
 ahead : (xs ys : List ℕ) → All (λ b. (b == 10) ≡ false) xs → (first_line (xs ++ ys) ≡ xs ++ first_line ys) × (behind_line (xs ++ ys) ≡ behind_line ys)
 ahead [] ys h = (refl, refl)
 ahead (x ∷ xs) ys h =
-    let here : (x == 10) ≡ false = All-head (λ b. (b == 10) ≡ false) x xs h in
-    let rest = ahead xs ys (All-tail (λ b. (b == 10) ≡ false) x xs h) in
-    (rw here (ap (λ l. x ∷ l) rest.0), rw here rest.1)
+    let plain : ℕ → Type 0 = λ b. (b == 10) ≡ false in
+    grind (arith, All-head plain x xs h, ahead xs ys (All-tail plain x xs h))
 
 -- a line feed ends it
 pub line_ends : (line rest : List ℕ) → All (λ b. (b == 10) ≡ false) line → (first_line (line ++ 10 ∷ rest) ≡ line) × (behind_line (line ++ 10 ∷ rest) ≡ rest)
@@ -106,6 +93,8 @@ line_alone text n h =
     let whole : take (n + 1) text ≡ take n text ++ 10 ∷ [] = rw (take_more text n 0 h.0.high, eqb-true (get_or text n 0) 10 h.1) refl in
     (ap behind_line whole ∙ (line_ends (take n text) [] plain).1, ap no_feed whole ∙ feed_in (take n text) (10 ∷ []) plain)
 
+pub ruleset alone = (none_found, line_alone)
+
 -- a line that goes on
 pub longer : (begun end : List ℕ) → no_feed begun ≡ true → (first_line (begun ++ end) ≡ begun ++ first_line end) × (behind_line (begun ++ end) ≡ behind_line end)
 longer begun end h = ahead begun end (all_fail is_feed begun h)
@@ -113,12 +102,7 @@ longer begun end h = ahead begun end (all_fail is_feed begun h)
 -- a text with a line feed is its first line, the line feed, and what stands behind it
 pub divided : (text : List ℕ) → HasFeed text → (text ≡ first_line text ++ 10 ∷ behind_line text) × (no_feed (first_line text) ≡ true)
 divided [] h = absurd (false≢true (sym h))
-divided (x ∷ xs) h = elim (cases_Bool (x == 10)) [
-  | inl feed ↦ rw (eqb-true x 10 feed) (refl, refl)
-  | inr other ↦
-      let more = divided xs (rw other at h) in
-      (rw other (ap (λ l. x ∷ l) more.0), rw other (rw other more.1))
-]
+divided (x ∷ xs) h = grind (arith, nat_tests, divided xs)
 
 -- and so its first line is a text
 pub line_utf8 : (text : List ℕ) → HasFeed text → IsUtf8 text → IsUtf8 (first_line text)
@@ -187,9 +171,6 @@ pub some_field_ahead : (text : List ℕ) → 0 < length (fields_ahead text)
 some_field_ahead text = some_field (first_line text)
 
 -- a text may be cut behind an ASCII character
-pub low_boundary : (text : List ℕ) (n b : ℕ) → IsUtf8 text → n < length text → get_or text n 0 ≡ b → b < 128 → IsCharBoundary text (n + 1)
-low_boundary text n b utf8 inside e low = IsCharBoundary-after_ascii text n utf8 inside (omega (arith, e, low))
-
 pub feed_boundary : (text : List ℕ) (n : ℕ) → IsUtf8 text → n < length text → is_byte 10 (get_or text n 0) ≡ true → IsCharBoundary text (n + 1)
 feed_boundary text n utf8 inside h = IsCharBoundary-after_ascii text n utf8 inside (omega (arith, eqb-true (get_or text n 0) 10 h))
 
@@ -203,18 +184,11 @@ behind_mark text word rest b end utf8 split low e =
 
 -- a common version text has no mark
 no_mark : (c : ℕ) → is_plain c ≡ true → is_byte2 59 10 c ≡ false
-no_mark c h = elim (cases_Bool (c == 59)) [
-  | inl mark ↦ cc (rw (eqb-true c 59 mark) at h)
-  | inr other ↦ rw other (elim (cases_Bool (c == 10)) [
-    | inl feed ↦ cc (rw (eqb-true c 10 feed) at h)
-    | inr neither ↦ neither
-  ])
-]
+no_mark c h = grind (arith, nat_tests)
 
 pub no_marks : (limit : ℕ) (text : List ℕ) (v : VersionValue) → IsCommon limit text v → All (λ b. is_byte2 59 10 b ≡ false) text
-no_marks limit text v h =
-    let each = AllPass-from_list_all is_plain text (common_plain limit text v h) in
-    All-from_get_or (λ b. is_byte2 59 10 b ≡ false) text 0 (λ i inside. no_mark (get_or text i 0) (each i 0 inside))
+no_marks limit text v h k d inside =
+    no_mark (get_or text k d) (AllPass-from_list_all is_plain text (common_plain limit text v h) k d inside)
 
 -- a text in which no mark is found, and a place in a line that such a text ends at
 pub unmarked : (text : List ℕ) → list_any (is_byte2 59 10) text ≡ false → All (λ b. is_byte2 59 10 b ≡ false) text
@@ -223,13 +197,9 @@ unmarked text h k d inside =
 
 pub before_mark : (text : List ℕ) (n : ℕ) → HasFeed text → n ≤ length text → list_any (is_byte2 59 10) (take n text) ≡ false
     → n < length text
-before_mark text n feed le h = elim (eq-or-lt_of_le le) [
-  | inl end ↦
-      let plain = unmarked (take n text) h in
-      let whole = take_all n text (omega (arith, end)) in
-      absurd (false≢true (sym feed ∙ no_feed_by text (no_line_feed text (rw whole at plain))))
-  | inr inside ↦ inside
-]
+before_mark text n feed le h =
+    let plain = no_feed_by (take n text) (no_line_feed (take n text) (unmarked (take n text) h)) in
+    grind (arith, take_all n text)
 
 -- one more character of a word
 word_plain : (c : ℕ) → 59 < c → is_byte2 59 10 c ≡ false
@@ -240,11 +210,11 @@ pub word_grows : (text : List ℕ) (n : ℕ) → n < length text → 59 < get_or
 word_grows text n inside char plain =
     rw (list_any_more (is_byte2 59 10) text n 0 inside, plain, word_plain (get_or text n 0) char) refl
 
-pub ruleset words = (before_mark, word_grows)
-
 -- a mark stands where a field ends, unless it is the end of the text
 pub end_marked : (text : List ℕ) (n : ℕ) → n < length text → ends_field (drop n text) ≡ true → is_byte2 59 10 (get_or text n 0) ≡ true
 end_marked text n inside h = rw (drop-cons text n 0 inside) at h
+
+pub ruleset words = (before_mark, unmarked, word_grows, end_marked)
 
 -- ---- whole lines
 
@@ -261,26 +231,12 @@ ends_last (x ∷ y ∷ xs) = ends_last (y ∷ xs)
 pub ends_cut : (text : List ℕ) (n : ℕ) → n < length text → is_byte 10 (get_or text n 0) ≡ true → ends_whole (take (n + 1) text) ≡ true
 ends_cut text n inside feed = rw (take_more text n 0 inside, eqb-true (get_or text n 0) 10 feed) (ends_last (take n text))
 
-behind_part : (xs : List ℕ) (y : ℕ) (ys : List ℕ) → ends_whole (xs ++ y ∷ ys) ≡ true → ends_whole (y ∷ ys) ≡ true
-unfolding ends_whole
-behind_part [] y ys h = h
-behind_part (x ∷ []) y ys h = h
-behind_part (x ∷ x' ∷ xs) y ys h = behind_part (x' ∷ xs) y ys h
-
-behind_one : (y : ℕ) (ys : List ℕ) → ends_whole (y ∷ ys) ≡ true → ends_whole ys ≡ true
-unfolding ends_whole
-behind_one y [] h = refl
-behind_one y (z ∷ ys) h = h
-
 -- some whole lines have a line feed, and behind the first of them there are whole lines again
-pub whole_feed : (c : ℕ) (rest : List ℕ) → ends_whole (c ∷ rest) ≡ true → HasFeed (c ∷ rest)
-unfolding ends_whole
-whole_feed c [] h = rw h refl
-whole_feed c (d ∷ rest) h = and_right (not (c == 10)) (no_feed (d ∷ rest)) (whole_feed d rest h)
-
 pub whole_has : (text : List ℕ) → ends_whole text ≡ true → 0 < length text → HasFeed text
+unfolding ends_whole
 whole_has [] h some = absurd (omega (arith, some))
-whole_has (c ∷ rest) h some = whole_feed c rest h
+whole_has (c ∷ []) h some = rw h refl
+whole_has (c ∷ d ∷ rest) h some = and_right (not (c == 10)) (no_feed (d ∷ rest)) (whole_has (d ∷ rest) h (omega arith))
 
 -- and it is shorter
 pub behind_shorter : (text : List ℕ) → HasFeed text → length (behind_line text) < length text
@@ -291,7 +247,8 @@ behind_shorter text feed =
 pub front_cut : (bytes : List ℕ) (k n : ℕ) → n ≤ length (take k bytes) → bytes ≡ take n (take k bytes) ++ drop n bytes
 front_cut bytes k n le = rw (take-take n k bytes (omega (arith, le, length-take k bytes))) (sym (take-append-drop n bytes))
 
-pub whole_next : (text : List ℕ) → HasFeed text → ends_whole text ≡ true → ends_whole (behind_line text) ≡ true
-whole_next text feed h =
-    let split = (divided text feed).0 in
-    behind_one 10 (behind_line text) (behind_part (first_line text) 10 (behind_line text) (rw split at h))
+pub whole_next : (text : List ℕ) → ends_whole text ≡ true → ends_whole (behind_line text) ≡ true
+unfolding ends_whole
+whole_next [] h = refl
+whole_next (c ∷ []) h = grind arith
+whole_next (c ∷ d ∷ rest) h = grind (arith, whole_next (d ∷ rest))

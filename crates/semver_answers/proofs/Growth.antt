@@ -31,10 +31,7 @@ parts_pass p front back all e h = and_parts _ _ (sym (list_all-append p front ba
 -- the text of intervals and more of them
 join_more : {X A : Type 0} (f : X → List A) (sep : List A) (x : X) (xs : List X) (y : X) (ys : List X)
     → join_by f sep (x ∷ (xs ++ y ∷ ys)) ≡ join_by f sep (x ∷ xs) ++ (sep ++ join_by f sep (y ∷ ys))
-join_more {X} {A} f sep x xs y ys =
-    let g : X → List A = λ z. sep ++ f z in
-    ap (λ l. f x ++ l) (flat_map-append g xs (y ∷ ys)) ∙ sym (append_assoc (f x) (flat_map g xs) _)
-    ∙ ap (λ l. (f x ++ flat_map g xs) ++ l) (append_assoc sep (f y) (flat_map g ys))
+join_more f sep x xs y ys = simp (flat_map-append, append_assoc)
 
 text_more : (ms ns : List (Span VersionValue)) (any : Bool) → any ≡ is_some (if_any ms)
     → text_behind false (if_any (ms ++ ns)) ≡ text_behind false (if_any ms) ++ text_behind any (if_any ns)
@@ -62,14 +59,12 @@ pub text_step : (asked : Combination) (front part both us : List (Span VersionVa
     → any ≡ is_some (combined asked front us)
     → text_behind false (combined asked both us) ≡ text_behind false (combined asked front us) ++ text_behind any (combined asked part us)
 text_step asked front part both us any e h =
-    ap (λ l. text_behind false (combined asked l us)) e ∙ ap (λ l. text_behind false (if_any l)) (made_more asked front part us)
-    ∙ text_more (made_of asked front us) (made_of asked part us) any h
+    rw (e, made_more asked front part us) (text_more (made_of asked front us) (made_of asked part us) any h)
 
 pub any_step : (asked : Combination) (front part both us : List (Span VersionValue)) (any now : Bool) → both ≡ front ++ part
     → any ≡ is_some (combined asked front us) → now ≡ (any || is_some (combined asked part us)) → now ≡ is_some (combined asked both us)
 any_step asked front part both us any now e h k =
-    k ∙ any_more (made_of asked front us) (made_of asked part us) any h ∙ ap (λ l. is_some (if_any l)) (sym (made_more asked front part us))
-    ∙ ap (λ l. is_some (combined asked l us)) (sym e)
+    rw (e, made_more asked front part us) (k ∙ any_more (made_of asked front us) (made_of asked part us) any h)
 
 -- of no intervals nothing comes
 made_none : (asked : Combination) (us : List (Span VersionValue)) → made_of asked [] us ≡ []

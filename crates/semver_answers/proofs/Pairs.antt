@@ -13,20 +13,11 @@ use Rattle.semver_answers.specs.declared.parts.Combination.TheVariants.{Intersec
 abbrev pub common : (s t : Span VersionValue) → Span VersionValue
 common s t = record { lower = greater_lower precedence s.lower t.lower; upper = lesser_upper precedence s.upper t.upper }
 
-alone : {A : Type 0} (b : Bool) (x : A) → is_some (if b then Some x else None) ≡ true
-    → if_any ((option_to_list (if b then Some x else None) ++ []) ++ []) ≡ Some (x ∷ [])
-alone true x h = refl
-alone false x h = cc
+alone : {A : Type 0} (b : Bool) (x : A) → if_any ((option_to_list (if b then Some x else None) ++ []) ++ [])
+    ≡ (if is_some (if b then Some x else None) then Some (x ∷ []) else None)
+alone true x = refl
+alone false x = refl
 
-nothing : {A : Type 0} (b : Bool) (x : A) → is_some (if b then Some x else None) ≡ false
-    → if_any ((option_to_list (if b then Some x else None) ++ []) ++ []) ≡ None
-nothing true x h = cc
-nothing false x h = refl
-
-pub met : (s t : Span VersionValue) → is_some (meet precedence s t) ≡ true
-    → combined Intersection (s ∷ []) (t ∷ []) ≡ Some (common s t ∷ [])
-met s t h = alone (is_interval precedence (common s t)) (common s t) h
-
-pub apart : (s t : Span VersionValue) → is_some (meet precedence s t) ≡ false
-    → combined Intersection (s ∷ []) (t ∷ []) ≡ None
-apart s t h = nothing (is_interval precedence (common s t)) (common s t) h
+pub in_common : (s t : Span VersionValue) → combined Intersection (s ∷ []) (t ∷ [])
+    ≡ (if is_some (meet precedence s t) then Some (common s t ∷ []) else None)
+in_common s t = alone (is_interval precedence (common s t)) (common s t)

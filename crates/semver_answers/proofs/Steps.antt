@@ -15,10 +15,12 @@ use Rattle.std.specs.declared.alloc.AllocError.{AllocError}
 use Rattle.semver_answers.specs.Answers.{Answers, IsAnswer}
 use Rattle.semver_answers.specs.Internal.Steps.{AnswersFront, Finished, GrowsByAnswer, Stopped, Taken}
 use Rattle.semver_answers.specs.Internal.Steps.{Told, Took, Turned, WritesFront}
+use Rattle.semver_answers.specs.Internal.Ahead.{HasFeed, behind_line, first_line}
 use Rattle.semver_answers.specs.Lines.{HasLines, ended, last_line, no_feed}
 use Rattle.semver_answers.specs.Outcome.{AnswersTorn, Ran, Writes}
 use Rattle.semver_answers.specs.declared.run.RunFault.{RunFault}
 use Rattle.semver_answers.specs.declared.run.RunFault.TheVariants.{Memory, Read, Write}
+use Rattle.semver_answers.proofs.Firsts.{divided}
 
 -- two lists and what follows them, place by place
 pub AllZip-append : {A B : Type 0} (R : A → B → Type 0) (xs ys : List A) (vs ws : List B) → AllZip R xs vs → AllZip R ys ws
@@ -121,14 +123,18 @@ pub taken_none : (p bytes output : List ℕ) → output ≡ [] → Taken p bytes
 taken_none p bytes output e = record { lines = []; divided = refl; each = λ h. (refl, h); answers = ([], tt, e) }
 
 -- a line of the rest, which goes on from what waits
-pub taken_line : (p bytes waits rest old new line more after : List ℕ) → Taken p bytes waits rest old → rest ≡ line ++ 10 ∷ more
-    → no_feed line ≡ true → GrowsByAnswer (waits ++ line) old new → after ≡ [] → Taken p bytes after more new
-taken_line p bytes waits rest old new line more after t next plain grown empty = rw empty (record {
-  lines = t.lines ++ (waits ++ line) ∷ [];
-  divided = t.divided ∙ rw next (simp (flat_map-append, append_assoc) refl);
-  each = λ p_plain. (rw (list_all-append, list_all-append, (t.each p_plain).0, (t.each p_plain).1, plain) refl, refl);
-  answers = rw grown.grown (Answers-append t.lines _ old _ t.answers (Answers-one (waits ++ line) grown.answer grown.is_answer));
-})
+pub taken_line : (p bytes waits rest old new text more after : List ℕ) → Taken p bytes waits rest old → rest ≡ text ++ more
+    → HasFeed text → GrowsByAnswer (waits ++ first_line text) old new → after ≡ [] → Taken p bytes after (behind_line text ++ more) new
+taken_line p bytes waits rest old new text more after t begins feed grown empty =
+    let line = first_line text in
+    let (split, plain) = divided text feed in
+    let next = begins ∙ ap (λ l. l ++ more) split ∙ append_assoc line (10 ∷ behind_line text) more in
+    rw empty (record {
+      lines = t.lines ++ (waits ++ line) ∷ [];
+      divided = t.divided ∙ rw next (simp (flat_map-append, append_assoc) refl);
+      each = λ p_plain. (rw (list_all-append, list_all-append, (t.each p_plain).0, (t.each p_plain).1, plain) refl, refl);
+      answers = rw grown.grown (Answers-append t.lines _ old _ t.answers (Answers-one (waits ++ line) grown.answer grown.is_answer));
+    })
 
 -- a stop before the end of the chunk
 pub taken_stop : (p bytes waits rest out : List ℕ) → Taken p bytes waits rest out → (q : List ℕ) × Told AnswersFront p bytes q out

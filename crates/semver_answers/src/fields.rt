@@ -39,6 +39,7 @@ fn mark_at(text: &str, end: usize) -> Option<Behind<'_>>
 
 /// The first field, and what stands behind it.
 #[inline(always)]
+#[tactic(auto, using(crate::proofs::Firsts::none_of_both))]
 pub(crate) fn cut(text: &str) -> (&str, Behind<'_>)
     requires { HasFeed text.now }
     ensures { Cuts text.now result.0.now result.1 }
@@ -72,6 +73,7 @@ pub(crate) fn cut_word(text: &str) -> (&str, Behind<'_>)
 }
 
 /// The text behind the first line.
+#[tactic(auto, using(crate::proofs::Firsts::none_found))]
 pub(crate) fn behind_line(text: &str) -> &str
     requires { HasFeed text.now }
     ensures { IsNext text.now result }
@@ -123,6 +125,7 @@ fn whole_version_field(text: &str) -> (Result<VersionRef<'_>, SemverError>, Behi
 /// The range of the first field, or why there is none, and what stands behind the field. The field
 /// is read once, unless it is no common range text.
 #[inline(always)]
+#[tactic(auto, using(crate::proofs::Firsts::words))]
 pub(crate) fn range_field<'r, 't>(
     text: &'t str,
     reader: &'r mut RangeReader<'t>,

@@ -1,4 +1,5 @@
 // The words and texts of the answers. Each is put behind the output, with a line feed.
+#![tactic(auto, using(crate::proofs::Bytes::extended))]
 
 ghost use Rattle.std.specs.Prelude.{◌≡◌, ◌++◌, OnOk, OnErr, Result};
 ghost use Rattle.std.specs.Result.{IsOkAnd};
@@ -67,7 +68,6 @@ pub(crate) fn difference_line(kind: Option<VersionDiff>) -> &'static [u8]
 
 /// A version.
 #[inline(always)]
-#[tactic(auto, using(crate::proofs::Bytes::extended))]
 pub(crate) fn put_printed<V: Versioned>(version: &V, output: &mut Output) -> Result<(), AllocError>
     ensures ok { OnOk result
         (output.new ≡ output.old ++ ended (version_text (V.value version.now))) }
@@ -79,7 +79,6 @@ pub(crate) fn put_printed<V: Versioned>(version: &V, output: &mut Output) -> Res
 
 /// What a call found, or `none`. The functions that ask for it then own nothing.
 #[inline(always)]
-#[tactic(auto, using(crate::proofs::Bytes::extended))]
 pub(crate) fn put_found(
     found: Result<Option<Version>, AllocError>,
     output: &mut Output,
@@ -97,7 +96,6 @@ pub(crate) fn put_found(
 
 /// A borrowed version, or `none`.
 #[inline(always)]
-#[tactic(auto, using(crate::proofs::Bytes::extended))]
 pub(crate) fn put_borrowed(
     version: Option<VersionRef<'_>>,
     output: &mut Output,
@@ -114,7 +112,6 @@ pub(crate) fn put_borrowed(
 
 /// The range that a call found, or `none`.
 #[inline(always)]
-#[tactic(auto, using(crate::proofs::Bytes::extended))]
 pub(crate) fn put_range_found(
     found: Result<Option<RangeRef<'_>>, AllocError>,
     output: &mut Output,
@@ -132,7 +129,6 @@ pub(crate) fn put_range_found(
 
 /// A range.
 #[inline(always)]
-#[tactic(auto, using(crate::proofs::Bytes::extended))]
 pub(crate) fn put_range_line(range: &RangeRef<'_>, output: &mut Output) -> Result<(), AllocError>
     ensures ok { OnOk result
         (output.new ≡ output.old ++ ended (range_text range.now)) }
@@ -144,7 +140,6 @@ pub(crate) fn put_range_line(range: &RangeRef<'_>, output: &mut Output) -> Resul
 
 /// The next version, or why there is none.
 #[inline(always)]
-#[tactic(auto, using(crate::proofs::Bytes::extended))]
 pub(crate) fn put_next(
     next: &Result<NextVersion<'_>, Failure<IncrementError>>,
     output: &mut Output,

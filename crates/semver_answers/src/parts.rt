@@ -42,6 +42,7 @@ pub(crate) enum Combination {
 
 /// The text of an intersection or a difference, or `none`, with a line feed.
 #[inline(always)]
+#[tactic(auto, using(crate::proofs::Replies::value_put))]
 pub(crate) fn put_combined<'t>(
     asked: Combination,
     alloc: Global,
@@ -68,7 +69,7 @@ pub(crate) fn put_combined<'t>(
 
 // The same of a large one.
 #[inline(never)]
-#[tactic(auto, using(crate::proofs::Bytes::extended))]
+#[tactic(auto, using(crate::proofs::Bytes::extended, crate::proofs::Growth::ended_text))]
 fn put_in_parts<'t>(
     asked: Combination,
     alloc: Global,
@@ -127,6 +128,7 @@ fn count_behind(count: usize, len: usize, all: usize) -> usize
 
 // Puts what comes of the intervals of a range, some after others. Returns whether there is
 // anything.
+#[tactic(auto, using(crate::proofs::Bytes::goes_on, crate::proofs::Growth::range_part))]
 fn put_parts<'t>(
     asked: Combination,
     alloc: Global,

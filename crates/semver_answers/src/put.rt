@@ -1,4 +1,5 @@
 // Puts numbers, versions and ranges behind the output, as they print, without a formatter.
+#![tactic(auto, using(crate::proofs::Bytes::extended))]
 
 ghost use Rattle.std.specs.Prelude.{◌≡◌, ◌≤◌, ◌<◌, ◌++◌, ◌∷◌, ◌^◌, [], ℕ, List, length};
 ghost use Rattle.std.specs.Prelude.{OnOk, OnErr, false};
@@ -86,7 +87,6 @@ fn put_number(number: u64, output: &mut Output) -> Result<(), AllocError>
 }
 
 #[inline(never)]
-#[tactic(auto, using(crate::proofs::Bytes::extended))]
 fn put_long(major: u64, minor: u64, patch: u64, output: &mut Output) -> Result<(), AllocError>
     ensures ok { OnOk result
         (output.new ≡ output.old ++ release_text major minor patch) }
@@ -101,7 +101,6 @@ fn put_long(major: u64, minor: u64, patch: u64, output: &mut Output) -> Result<(
 
 // Puts three numbers with dots between them; short ones by one store of eight bytes.
 #[inline(always)]
-#[tactic(auto, using(crate::proofs::Bytes::extended))]
 fn put_release(major: u64, minor: u64, patch: u64, output: &mut Output) -> Result<(), AllocError>
     ensures ok { OnOk result
         (output.new ≡ output.old ++ release_text major minor patch) }
@@ -116,7 +115,6 @@ fn put_release(major: u64, minor: u64, patch: u64, output: &mut Output) -> Resul
 }
 
 #[inline(always)]
-#[tactic(auto, using(crate::proofs::Bytes::extended))]
 fn put_id(id: IdentifierRef<'_>, output: &mut Output) -> Result<(), AllocError>
     ensures ok { OnOk result
         (output.new ≡ output.old ++ id_text (lent_id_view id.entry)) }
@@ -130,7 +128,6 @@ fn put_id(id: IdentifierRef<'_>, output: &mut Output) -> Result<(), AllocError>
 
 // Puts a mark and the identifiers joined by dots, of which there is one at least.
 #[inline(never)]
-#[tactic(auto, using(crate::proofs::Bytes::extended))]
 fn put_ids(mark: u8, ids: IdentifierRefs<'_>, output: &mut Output) -> Result<(), AllocError>
     requires { is_empty ids ≡ false }
     ensures ok { OnOk result
@@ -153,7 +150,6 @@ fn put_ids(mark: u8, ids: IdentifierRefs<'_>, output: &mut Output) -> Result<(),
 
 // Puts a mark and the identifiers joined by dots, or nothing where there are none.
 #[inline(always)]
-#[tactic(auto, using(crate::proofs::Bytes::extended))]
 fn put_list(mark: u8, ids: IdentifierRefs<'_>, output: &mut Output) -> Result<(), AllocError>
     ensures ok { OnOk result
         (output.new ≡ output.old ++ marked_list (mark ∷ []) ids.entry) }
@@ -167,7 +163,6 @@ fn put_list(mark: u8, ids: IdentifierRefs<'_>, output: &mut Output) -> Result<()
 
 /// Puts a version. Where an allocation fails, a part of it may be put.
 #[inline(always)]
-#[tactic(auto, using(crate::proofs::Bytes::extended))]
 pub(crate) fn put_version<V: Versioned>(version: &V, output: &mut Output) -> Result<(), AllocError>
     ensures ok { OnOk result
         (output.new ≡ output.old ++ version_text (V.value version.now)) }
@@ -180,7 +175,6 @@ pub(crate) fn put_version<V: Versioned>(version: &V, output: &mut Output) -> Res
 
 /// Puts a next version. Where an allocation fails, a part of it may be put.
 #[inline(always)]
-#[tactic(auto, using(crate::proofs::Bytes::extended))]
 pub(crate) fn put_next_version(
     version: &NextVersion<'_>,
     output: &mut Output,

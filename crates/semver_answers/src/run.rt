@@ -43,6 +43,7 @@ struct Lines {
 
 impl Lines {
     // Answers the pending line, which goes on and ends with these bytes.
+    #[tactic(auto, using(crate::proofs::Firsts::longer))]
     fn end_line(&mut self, alloc: Global, end: &[u8]) -> Result<(), AllocError>
         requires pending { no_feed self.old.pending.items ≡ true }
         requires feed { HasFeed end.now }
@@ -90,6 +91,7 @@ impl Lines {
 }
 
 // The first line with its line feed, and what stands behind it; `None` where there is none.
+#[tactic(auto, using(crate::proofs::Firsts::alone))]
 fn first_line(bytes: &[u8]) -> Option<(&[u8], &[u8])>
     ensures some { IfSome result (λ cut. bytes.now ≡ cut.0.now ++ cut.1.now) }
     ensures feed { IfSome result (λ cut. HasFeed cut.0.now) }
@@ -193,6 +195,7 @@ fn finish<W: Write>(alloc: Global, writer: &mut W, lines: &mut Lines) -> Result<
 /// Each error of the reader or the writer ends the run at once, an interruption too, and so does a
 /// write that accepts no byte. After `u64::MAX` reads the error is `Read`. Memory is allocated for
 /// a chunk of the input, its answers and the longest line.
+#[tactic(auto, using(crate::proofs::Steps::nothing_ran))]
 pub fn run<R: Read, W: Write>(alloc: Global, reader: &mut R, writer: &mut W) -> Result<(), RunFault>
     ensures { Ran result (R.remaining reader.old) (R.remaining reader.new) (W.contents writer.old)
         (W.contents writer.new) }

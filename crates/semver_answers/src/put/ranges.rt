@@ -1,4 +1,5 @@
 // Puts ranges behind the output, as they print.
+#![tactic(auto, using(crate::proofs::Bytes::extended))]
 
 ghost use Rattle.std.specs.Prelude.{◌≡◌, ◌++◌, OnOk, OnErr};
 ghost use Rattle.nodejs_semver.specs.Printing.Text.{bounds_text, lower_text, range_text};
@@ -24,7 +25,6 @@ fn put_bound(version: &VersionRef<'_>, output: &mut Output) -> Result<(), AllocE
 
 // A lower bound: `>=v` or `>v`, and nothing where there is none.
 #[inline(always)]
-#[tactic(auto, using(crate::proofs::Bytes::extended))]
 fn put_lower(bound: &Bound<VersionRef<'_>>, output: &mut Output) -> Result<(), AllocError>
     ensures ok { OnOk result (output.new ≡ output.old ++ lower_text bound.now) }
     ensures err { OnErr result (Extends output.old output.new) }
@@ -44,7 +44,6 @@ fn put_lower(bound: &Bound<VersionRef<'_>>, output: &mut Output) -> Result<(), A
 
 // An upper bound: `<v` or `<=v`, and nothing where there is none.
 #[inline(always)]
-#[tactic(auto, using(crate::proofs::Bytes::extended))]
 fn put_upper(bound: &Bound<VersionRef<'_>>, output: &mut Output) -> Result<(), AllocError>
     ensures ok { OnOk result (output.new ≡ output.old ++ upper_text bound.now) }
     ensures err { OnErr result (Extends output.old output.new) }
@@ -64,7 +63,6 @@ fn put_upper(bound: &Bound<VersionRef<'_>>, output: &mut Output) -> Result<(), A
 
 /// Two bounds, or one version where they are `>=v` and `<=w` and v equals w.
 #[inline(never)]
-#[tactic(auto, using(crate::proofs::Bytes::extended))]
 pub(crate) fn put_bounds(
     lower: &Bound<VersionRef<'_>>,
     upper: &Bound<VersionRef<'_>>,

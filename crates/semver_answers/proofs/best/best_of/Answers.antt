@@ -18,11 +18,11 @@ pub returns-in-Lines-clause-best : goal.returns-in-Lines-clause-best
 returns-in-Lines-clause-best c =
     let (done, split, found) = c.fields.invariant.found in
     let v = c.version_field-version.ensures in
-    rw (split, single _ _ _ _ v.cuts c.in-Lines.is) (c.in_ok-keep_better.ensures.best done v.field v.parsed found)
+    rw (split, single v.cuts c.in-Lines.is) (c.in_ok-keep_better.ensures.best done v.field v.parsed found)
 
 pub returns-in-Lines-clause-next : goal.returns-in-Lines-clause-next
 returns-in-Lines-clause-next c =
-    let n = next_line _ _ _ _ c.version_field-version.ensures.cuts c.in-Lines.is in
+    let n = next_line c.version_field-version.ensures.cuts c.in-Lines.is in
     (n.0 ∙ c.fields.invariant.next, n.1)
 
 pub fields-preserved : goal.fields-preserved
@@ -30,7 +30,7 @@ fields-preserved c =
     let (done, split, found) = c.fields.invariant.found in
     let v = c.version_field-version.ensures in
     let goes_on = rw c.in-Fields.is at v.cuts.goes_on in
-    let e = onward _ _ _ _ v.cuts c.in-Fields.is in
+    let e = onward v.cuts c.in-Fields.is in
     record {
       utf8 = goes_on.1;
       feed = goes_on.0;
@@ -43,4 +43,4 @@ fields-preserved c =
     }
 
 pub fields-smaller : goal.fields-smaller
-fields-smaller c = omega (arith, ap length (onward _ _ _ _ c.version_field-version.ensures.cuts c.in-Fields.is))
+fields-smaller c = omega (arith, ap length (onward c.version_field-version.ensures.cuts c.in-Fields.is))

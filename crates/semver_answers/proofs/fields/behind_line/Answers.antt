@@ -1,16 +1,11 @@
 use Rattle.std.proofs.Common.{sym, ◌∙◌}
-use Rattle.std.proofs.lemmas.Bool.{false≢true}
-use Rattle.semver_answers.proofs.Firsts.{feed_boundary, line_cut, none_found}
+use Rattle.semver_answers.proofs.Firsts.{feed_boundary, line_cut}
 use Rattle.semver_answers.proofs.fields.behind_line.Goals as goal
 
 pub range_from-requires : goal.range_from-requires
 range_from-requires c = λ _. (
     let found = rw (c.in-Some.is, c.as_bytes.ensures.value) at c.memchr.ensures in
     feed_boundary c.args.text.now c.in-Some.end c.utf8.text found.0.high found.1)
-
-pub unreachable-requires : goal.unreachable-requires
-unreachable-requires c =
-    false≢true (sym c.requires ∙ none_found c.args.text.now (rw (c.in-None.is, c.as_bytes.ensures.value) at c.memchr.ensures))
 
 pub returns : goal.returns
 returns c =

@@ -1,16 +1,6 @@
-use Rattle.semver_answers.proofs.Firsts.{before_mark, unmarked}
-use Rattle.std.proofs.Common.{take}
+use Rattle.semver_answers.proofs.Firsts.{before_mark}
 use Rattle.std.proofs.lemmas.Str.{IsCharBoundary-before_ascii}
 use Rattle.semver_answers.proofs.fields.cut_word.Goals as goal
-
-pub mark_at-requires-clause-inside : goal.mark_at-requires-clause-inside
-mark_at-requires-clause-inside c =
-    let word = c.bytes.invariant in
-    before_mark c.args.text.now c.bytes.end c.requires word.0 word.1
-
-pub mark_at-requires-clause-plain : goal.mark_at-requires-clause-plain
-mark_at-requires-clause-plain c =
-    unmarked (take c.bytes.end c.args.text.now) c.bytes.invariant.1
 
 pub range-requires-clause-end_boundary : goal.range-requires-clause-end_boundary
 range-requires-clause-end_boundary c =

@@ -1,6 +1,5 @@
 use Rattle.std.proofs.Common.{ap, append-nil, append_assoc, arith, false, ◌++◌, ◌+◌, ◌-◌, ◌∙◌, drop, sym, take}
-use Rattle.semver_answers.proofs.Bytes.{failed, goes_on}
-use Rattle.semver_answers.proofs.Growth.{any_step, combined_none, range_part, taken_on, text_step}
+use Rattle.semver_answers.proofs.Growth.{any_step, combined_none, taken_on, text_step}
 use Rattle.std.specs.Option.{is_some}
 use Rattle.semver_answers.specs.Internal.Parts.{combined, text_behind}
 use Rattle.semver_answers.proofs.parts.put_parts.Goals as goal
@@ -10,12 +9,6 @@ parts-init c =
     let none = combined_none c.args.asked c.args.s.now in
     let nothing = ap (λ l. c.args.output.now ++ text_behind false l) none ∙ append-nil c.args.output.now in
     record { within = omega arith; forth = omega arith; some = sym (ap is_some none); grown = sym nothing }
-
-pub put_part-requires : goal.put_part-requires
-put_part-requires c = range_part _ c.args.these.now c.parts.at _ c.requires c.parts-test.true (omega (arith, c.parts.invariant.forth))
-
-pub returns-in_err-any-clause-err : goal.returns-in_err-any-clause-err
-returns-in_err-any-clause-err c = failed _ _ (goes_on _ _ _ _ c.parts.invariant.grown c.in_err-any.ensures.err)
 
 pub parts-preserved : goal.parts-preserved
 parts-preserved c =

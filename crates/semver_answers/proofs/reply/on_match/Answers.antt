@@ -5,37 +5,35 @@ use Rattle.semver_answers.specs.Internal.Results.{answered, unasked}
 use Rattle.semver_answers.specs.Names.{truth_word}
 use Rattle.semver_answers.specs.Replies.{IsRangeOf, IsVersionOf, read}
 use Rattle.semver_answers.proofs.Asked.{match_asked, match_none}
-use Rattle.semver_answers.proofs.Behind.{one_is_not_two, pair, single, three, three_is_not_two}
+use Rattle.semver_answers.proofs.Behind.{one_is_not_two, pair, three_are_not_two}
 use Rattle.semver_answers.proofs.Bytes.{as_it_was}
 use Rattle.semver_answers.proofs.Replies.{told_asked, told_fault, told_says, told_second}
 use Rattle.semver_answers.proofs.reply.on_match.Goals as goal
 
 pub returns-in_default-clause-told : goal.returns-in_default-clause-told
 returns-in_default-clause-told c =
-    let r = c.range_field.ensures in
-    (refl, unasked (match_none c.args.asked c.requires.two _ (one_is_not_two c.args.texts.now r.field (single _ _ _ _ r.cuts c.in_default.is))) refl)
+    (refl, unasked (match_none c.args.asked c.requires.two (one_is_not_two c.range_field.ensures.cuts c.in_default.is)) refl)
 
 pub returns-in_default-behind-clause-told : goal.returns-in_default-behind-clause-told
 returns-in_default-behind-clause-told c =
     let r = c.range_field.ensures in
     let v = c.version_field-version.ensures in
-    let e = three _ _ _ _ _ _ _ r.cuts c.in-Fields.is v.cuts c.in_default-behind.is in
-    (refl, unasked (match_none c.args.asked c.requires.two _ (three_is_not_two c.args.texts.now r.field v.field c.in_default-behind.field-0.now e)) refl)
+    (refl, unasked (match_none c.args.asked c.requires.two (three_are_not_two r.cuts c.in-Fields.is v.cuts c.in_default-behind.is)) refl)
 
 pub returns-in_err-range-clause-told : goal.returns-in_err-range-clause-told
 returns-in_err-range-clause-told c =
     let r = c.range_field.ensures in
     let v = c.version_field-version.ensures in
-    let both = pair _ _ _ _ _ _ _ r.cuts c.in-Fields.is v.cuts c.in-Lines.is in
-    told_asked _ (Match (r.field, v.field) c.args.asked) _ _ _ (match_asked c.args.asked c.requires.two r.field v.field _ both)
+    let both = pair r.cuts c.in-Fields.is v.cuts c.in-Lines.is in
+    told_asked _ (Match (r.field, v.field) c.args.asked) _ _ _ (match_asked c.args.asked c.requires.two both)
     (told_fault (IsRangeOf r.field) _ _ _ _ c.from_residual.ensures.1 (c.in_err-range.ensures r.field r.parsed))
 
 pub returns-in_err-version-clause-told : goal.returns-in_err-version-clause-told
 returns-in_err-version-clause-told c =
     let r = c.range_field.ensures in
     let v = c.version_field-version.ensures in
-    let both = pair _ _ _ _ _ _ _ r.cuts c.in-Fields.is v.cuts c.in-Lines.is in
-    told_asked _ (Match (r.field, v.field) c.args.asked) _ _ _ (match_asked c.args.asked c.requires.two r.field v.field _ both)
+    let both = pair r.cuts c.in-Fields.is v.cuts c.in-Lines.is in
+    told_asked _ (Match (r.field, v.field) c.args.asked) _ _ _ (match_asked c.args.asked c.requires.two both)
     (told_second (IsRangeOf r.field) (IsVersionOf v.field) _ _ _ _ _ (c.in_ok-range.ensures r.field r.parsed)
     c.from_residual-in_err-version.ensures.1 (c.in_err-version.ensures v.field v.parsed))
 
@@ -43,7 +41,7 @@ pub returns-clause-told : goal.returns-clause-told
 returns-clause-told c =
     let r = c.range_field.ensures in
     let v = c.version_field-version.ensures in
-    let both = pair _ _ _ _ _ _ _ r.cuts c.in-Fields.is v.cuts c.in-Lines.is in
+    let both = pair r.cuts c.in-Fields.is v.cuts c.in-Lines.is in
     told_says _ c.put_truth.result _ _ _ _ _ c.told.ensures c.put_truth.ensures.ok (on_err_weaker c.put_truth.result (as_it_was _ _) c.put_truth.ensures.err)
-    (answered (Match (r.field, v.field) c.args.asked) (match_asked c.args.asked c.requires.two r.field v.field _ both)
+    (answered (Match (r.field, v.field) c.args.asked) (match_asked c.args.asked c.requires.two both)
     (read _ (c.in_ok-range.ensures r.field r.parsed) (read _ (c.in_ok-version.ensures v.field v.parsed) (ap truth_word c.reply.ensures))))

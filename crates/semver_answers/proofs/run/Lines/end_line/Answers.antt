@@ -6,8 +6,3 @@ pub answer_line-requires-2-clause-last : goal.answer_line-requires-2-clause-last
 answer_line-requires-2-clause-last c =
     rw (c.as_slice-line.ensures.value, c.in_ok-extend_from_slice.ensures.items)
     ((longer c.args.self.now.pending.items c.args.end.now c.requires.pending).1 ∙ c.requires.last)
-
-pub returns-clause-ok : goal.returns-clause-ok
-returns-clause-ok c =
-    let line = (longer c.args.self.now.pending.items c.args.end.now c.requires.pending).0 in
-    rw (c.as_slice-line.ensures.value, c.in_ok-extend_from_slice.ensures.items, line) at c.in_ok-answer_line.ensures.ok

@@ -1,8 +1,7 @@
-use Rattle.std.proofs.Common.{◌∷◌, ◌∙◌, ◌≡◌, ◌<◌, [], sym, ap, arith, length, append_assoc, ◌++◌, refl, rules}
+use Rattle.std.proofs.Common.{◌≡◌, ◌<◌, [], sym, ap, arith, length, refl, rules}
 use Rattle.std.proofs.lemmas.List.{nil_from_length}
 use Rattle.std.proofs.lemmas.Result.{err_from_is_err_and}
-use Rattle.semver_answers.specs.Internal.Ahead.{behind_line, first_line}
-use Rattle.semver_answers.proofs.Firsts.{behind_shorter, divided, ends_none, whole_has, whole_next}
+use Rattle.semver_answers.proofs.Firsts.{behind_shorter, ends_none, whole_has, whole_next}
 use Rattle.semver_answers.proofs.Steps.{taken_line, taken_none, taken_stop, took_end}
 use Rattle.semver_answers.proofs.run.Lines.take.Goals as goal
 
@@ -30,19 +29,15 @@ pub lines-preserved-then-is_empty : goal.lines-preserved-then-is_empty
 lines-preserved-then-is_empty c =
     let empty : length c.lines.text.now ≡ 0 = search rules in
     let cut = c.in-Some.ensures in
-    let line = c.in-Some.line.now in
-    let split = divided line cut.feed in
-    let next : c.lines.rest.now ≡ first_line line ++ 10 ∷ c.in-Some.behind.now =
-    cut.some ∙ ap (λ l. l ++ c.in-Some.behind.now) (rw cut.last at split.0) ∙ append_assoc (first_line line) (10 ∷ []) c.in-Some.behind.now in
     let before = rw (nil_from_length c.lines.text.now empty) at c.lines.invariant.taken in
     let ended = c.in_ok-end_line.ensures in
+    let after = taken_line _ _ _ _ _ _ c.in-Some.line.now _ _ before cut.some cut.feed ended.ok ended.ended in
     record {
       utf8 = c.front_lines.ensures.utf8;
       whole = c.front_lines.ensures.lines;
       pending = rw ended.ended refl;
       empty = λ some. ended.ended;
-      taken =
-          rw (sym c.front_lines.ensures.whole) (taken_line _ _ _ _ _ _ (first_line line) c.in-Some.behind.now _ before next split.1 ended.ok ended.ended);
+      taken = rw (sym c.front_lines.ensures.whole) (rw cut.last at after);
     }
 
 pub answer_text-requires : goal.answer_text-requires
@@ -66,16 +61,12 @@ lines-preserved c =
     let some : 0 < length c.lines.text.now = search rules in
     let text = c.lines.text.now in
     let feed = whole_has text c.lines.invariant.whole some in
-    let split = divided text feed in
     let none = c.lines.invariant.empty some in
     let n = c.in_ok-text.ensures.next in
-    let next : text ++ c.lines.rest.now ≡ first_line text ++ 10 ∷ (behind_line text ++ c.lines.rest.now) =
-    ap (λ l. l ++ c.lines.rest.now) split.0 ∙ append_assoc (first_line text) (10 ∷ behind_line text) c.lines.rest.now in
     record {
       utf8 = n.1;
-      whole = rw n.0 (whole_next text feed c.lines.invariant.whole);
+      whole = rw n.0 (whole_next text c.lines.invariant.whole);
       pending = c.lines.invariant.pending;
       empty = λ more. none;
-      taken = rw n.0 (taken_line _ _ _ _ _ _ (first_line text) (behind_line text ++ c.lines.rest.now) _ c.lines.invariant.taken next split.1
-          (rw none c.in_ok-text.ensures.ok) none);
+      taken = rw n.0 (taken_line _ _ _ _ _ _ text _ _ c.lines.invariant.taken refl feed (rw none c.in_ok-text.ensures.ok) none);
     }
