@@ -5,7 +5,7 @@ member of a trait: no crate above can call it. A type that is not public counts 
 its private fields do not count, nor how its value is made of them: a crate above sees the value alone.
 
 So what is added to a crate below changes nothing for a crate that does not name it, and neither does a body, a proof or the contract of a
-private function there."""
+private function there. Of a lemma its statement alone counts: what cites it goes by that, unless some proof opens it."""
 import functools
 import re
 
@@ -30,6 +30,10 @@ FIELD = re.compile(r"^    (?:pub\([^)]*\) )?(?!pub\b)\w+: .*\n?", re.M)
 OF_FIELDS = re.compile(r"^    ghost (?:view|invariant|use)\b.*(?:\n {8}.*)*\n?", re.M)
 DECLARED = re.compile(r"^ *(?:abbrev |unfoldable |opaque |pub |record |data |ruleset )*([^\W\d][\w'-]*)")
 VARIANT = re.compile(r"^  (?:pub )?((?:[^\W\d][\w'-]* )+)(?::|$)", re.M)
+# A lemma: its name and statement, and what follows of its proof.
+LEMMA = re.compile(r"((?: *)(?:pub )?([^\W\d][\w'-]*) :(?:.*)(?:\n(?! *\2 | *unfolding ).*)*)\n *(?:\2 |unfolding )")
+# What is opened, in antt and by an attribute.
+OPENED = re.compile(r"\bunfolding\b[ (]([^)\n]*)")
 SKIPPED = re.compile(r"(?:pub(?:\([^)]*\))? )?(?:ghost )?(?:use|mod)\b|#!\[|unsafe extern")
 
 
@@ -84,9 +88,11 @@ def of_rust(file, text, own=(), modelled=(), traits=()):
                     owner = [*owner, *of_trait]
                     found.append(Piece(file, part.removesuffix("\n}"), (), owner))
                     continue
-                if not is_trait and PRIVATE.search(part):
+                if not is_trait:
                     # The first member stands right below the head.
-                    part = part.partition("{\n")[0]
+                    part, _, first = part.partition("{\n")
+                    if first and not PRIVATE.search(first):
+                        found.append(Piece(file, first.removesuffix("\n}"), ITEM.findall(first)[:1], owner))
                 part = OF_FIELDS.sub("", part) if is_model else part
                 found.append(Piece(file, part.removesuffix("\n}"), owner))
                 continue
@@ -101,11 +107,18 @@ def of_rust(file, text, own=(), modelled=(), traits=()):
     return found
 
 
-def of_antt(file, text):
+def stated(part, opened):
+    """Returns a lemma without its proof, which is shut to all that cite it; a definition that is open, or is opened somewhere, as it stands."""
+    head = LEMMA.match(part)
+    return part[: head.end(1)] if head and head[2] not in opened else part
+
+
+def of_antt(file, text, opened):
     """Returns the pieces of a file of definitions or lemmas. A data type is seen by its cases too."""
     found = []
     for part in filter(None, (it.strip("\n") for it in IDLE.sub("", text).split("\n\n"))):
         part = "\n".join(it for it in part.split("\n") if not SKIPPED.match(it))
+        part = stated(part, opened) if "/proofs/" in file else part
         if part.strip():
             names = DECLARED.findall(part)[:1]
             cases = [name for it in VARIANT.findall(part) for name in it.split()] if re.match(r"(?:pub )?data ", part) else []
@@ -186,7 +199,17 @@ def pieces(crate):
     """Returns the pieces of the library of a crate's contracts alone, in the order of its files."""
     own, modelled = ({name for text in texts(crate).values() for name in kind.findall(text)} for kind in (OWN_TRAIT, MODELLED))
     traits = {name for it in [crates()[crate], *crates()[crate].below()] for text in texts(it.name).values() for name in TRAIT.findall(text)}
-    return [it for file, text in texts(crate).items() for it in (of_rust(file, text, own, modelled, traits) if file.endswith(".rt") else of_antt(file, text))]
+    found = []
+    for file, text in texts(crate).items():
+        found += of_rust(file, text, own, modelled, traits) if file.endswith(".rt") else of_antt(file, text, opened())
+    return found
+
+
+@functools.lru_cache(maxsize=None)
+def opened():
+    """Returns the names of all definitions that some proof of the repository opens."""
+    every = [text for it in crates() for text in all_texts(f"{TOP}/crates/{it}").values()]
+    return {name for text in every for said in OPENED.findall(text) for name in WORD.findall(said)}
 
 
 def called(file, text):
