@@ -76,7 +76,6 @@ pub(crate) fn accepts<V: VersionPoint, W: Versioned>(
 }
 
 // Whether some one of the intervals holds the version.
-#[inline(never)]
 fn hold<V: VersionPoint, W: Versioned>(intervals: &[Interval<V>], version: &W) -> bool
     ensures { result ≡ accepts (spans_of V.value intervals.now) (W.value version.now) true }
 {
@@ -86,7 +85,6 @@ fn hold<V: VersionPoint, W: Versioned>(intervals: &[Interval<V>], version: &W) -
 }
 
 // Whether some one of the intervals holds the version and lets it in, pre-releases not included.
-#[inline(never)]
 fn satisfied<V: VersionPoint, W: Versioned>(intervals: &[Interval<V>], version: &W) -> bool
     ensures { result ≡ accepts (spans_of V.value intervals.now) (W.value version.now) false }
 {
