@@ -1,34 +1,29 @@
 -- Shared with the layers above: tests of what a comparison answers, the order of cuts, and the points of what two spans have in
 -- common or one leaves of another.
 use Rattle.semver_core.proofs.Common.{Bool, None, Option, Some, ap, arith, false, inl, inr, refl, subst, sym, true, ℕ, ◌||◌, ◌∙◌}
-use Rattle.semver_core.proofs.Common.{◌≡◌, and_parts, cases_Bool, tied_itself, is_le, Equal, Greater, Less, clip, Span}
+use Rattle.semver_core.proofs.Common.{◌≡◌, and_parts, cases_Bool, tied_itself, is_le, clip, Span}
 use Rattle.semver_core.proofs.Common.{greater_lower, is_interval, lesser_upper, meet, option_holds, remainders, is_some, not}
 use Rattle.semver_core.proofs.Common.{◌&&◌, upto, ordering_reverse, Ordering, cond_both}
 use Rattle.semver_core.specs.Cuts.{Cut, Start, Beside, End, cut_cmp, is_past, lower_cut, upper_cut, interval, holds, left_below}
 use Rattle.semver_core.specs.{Cuts.left_above, Internal.Sides.Near, declared.cuts.bound.Bound.Bound}
-use Rattle.{semver_core.specs.declared.cuts.bound.Bound.TheVariants.{Unbounded, Before, After}, std.proofs.Math.Bool.and_comm}
+use Rattle.{std.proofs.Math.Bool.and_comm}
 use Rattle.std.specs.Cmp.{IsTotalOrder, on_total, then_total, nat_cmp_total, bool_cmp_total, Lexicographic.options_total}
 use Rattle.std.specs.{Option.option_cmp, Ordering.{nat_cmp, is_lt, is_gt, on, then_cmp, bool_cmp}}
 
 -- what the tests of an answer say together
 pub tells : (r : Ordering) → (is_le r ≡ not (is_gt r))
     × ((is_gt (ordering_reverse r) ≡ is_lt r) × (is_lt (ordering_reverse r) ≡ is_gt r))
-tells Less = (refl, (refl, refl))
-tells Equal = (refl, (refl, refl))
-tells Greater = (refl, (refl, refl))
+tells r = (grind arith, (grind arith, grind arith))
 
 -- a test does not hold where it would make another one hold that does not
 pub not_if : (a b : Bool) → (a ≡ true → b ≡ true) → b ≡ false → a ≡ false
-not_if true b f h = sym (f refl) ∙ h
-not_if false b f h = refl
+not_if a b f h = grind arith
 
 pub none_of : {A : Type 0} (m : Option A) → is_some m ≡ false → m ≡ None
-none_of None h = refl
-none_of (Some x) h = cc
+none_of m h = grind arith
 
 pub lt_not_gt : (r : Ordering) → is_lt r ≡ true → is_gt r ≡ false
-lt_not_gt Less h = refl
-lt_not_gt r h = cc
+lt_not_gt r h = grind arith
 
 module _ {V : Type 0} {R : V → V → Ordering} (o : IsTotalOrder R) where
   -- a cut by its place among the three kinds, and then by its point and its side
@@ -45,10 +40,7 @@ module _ {V : Type 0} {R : V → V → Ordering} (o : IsTotalOrder R) where
   beside_cmp = then_cmp (on (λ (p : V × Bool). p.0) R) (on (λ (p : V × Bool). p.1) bool_cmp)
 
   keyed : (c d : Cut V) → then_cmp (on rank nat_cmp) (on beside (option_cmp beside_cmp)) c d ≡ cut_cmp R c d
-  keyed Start Start = refl
-  keyed (Beside v s) (Beside w t) = refl
-  keyed End End = refl
-  keyed c d = refl
+  keyed c d = grind arith
 
   pub cut_total : IsTotalOrder (cut_cmp R)
   cut_total = subst IsTotalOrder (λ i c d. keyed c d i) (then_total (on_total rank nat_cmp_total) (on_total beside (options_total
@@ -126,16 +118,10 @@ module _ {V : Type 0} {R : V → V → Ordering} (o : IsTotalOrder R) where
 
   -- a bound turned round stands for the same cut, if there is something on the other side of it
   pub turned_lower : (b : Bound V) (a : Cut V) → lt a (lower_cut b) ≡ true → upper_cut b ≡ lower_cut b
-  turned_lower Unbounded Start h = cc
-  turned_lower Unbounded a h = cc
-  turned_lower (Before v) a h = refl
-  turned_lower (After v) a h = refl
+  turned_lower b a h = grind arith
 
   pub turned_upper : (b : Bound V) (a : Cut V) → lt (upper_cut b) a ≡ true → lower_cut b ≡ upper_cut b
-  turned_upper Unbounded Start h = cc
-  turned_upper Unbounded a h = cc
-  turned_upper (Before v) a h = refl
-  turned_upper (After v) a h = refl
+  turned_upper b a h = grind arith
 
   pub is_some-interval : (s : Span V) → is_some (interval R s) ≡ is_interval R s
   is_some-interval s = cond_both (is_interval R s) (Some s) None (λ m. is_some m ≡ is_interval R s) sym sym

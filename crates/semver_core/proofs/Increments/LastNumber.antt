@@ -1,6 +1,6 @@
 -- The last number of a list.
 use Rattle.semver_core.proofs.Common.{Fault, advance, has_numeric, one_more, raise_last, is_empty, AlphaNumeric}
-use Rattle.semver_core.proofs.Common.{Id, Numeric, id_cmp, IdentifierBase, List, None, Option}
+use Rattle.semver_core.proofs.Common.{Id, Numeric, id_cmp, IdentifierBase, List, Option}
 use Rattle.semver_core.proofs.Common.{Some, [], ap, arith, false, inl, inr, length, refl, sym}
 use Rattle.semver_core.proofs.Common.{take, true, ℕ, ◌++◌, ◌+◌, ◌-◌, ◌<◌, ◌∙◌, ◌∷◌, ◌≡◌, ◌≤◌, nat_tests, cases_lt}
 use Rattle.semver_core.proofs.Common.{is_ascii_digit, tied_itself, list_all, ◌==◌, Err, Ok, Result, digits_value, bytes_eq}
@@ -17,8 +17,7 @@ has_it : (front back : List Id) (n : ℕ) → has_numeric (front ++ Numeric n �
 has_it front back n = rw list_any-append (grind arith)
 
 bind_twice : {A B C : Type 0} (r : Result A Fault) (f : A → B) (g : B → C) → ((r >>= λ x. Ok (f x)) >>= λ y. Ok (g y)) ≡ (r >>= λ x. Ok (g (f x)))
-bind_twice (Ok x) f g = refl
-bind_twice (Err e) f g = refl
+bind_twice r f g = grind arith
 
 raise_divided : (front back : List Id) (n : ℕ) → has_numeric back ≡ false
     → raise_last (front ++ Numeric n ∷ back) ≡ (one_more n >>= λ m. Ok (front ++ Numeric m ∷ back))
@@ -47,8 +46,7 @@ list_kept id list = (there list, λ p. rw p.2 (ap is_eq (tied_itself id_total (a
     there list h = cc
 
 by_raise : (list : List Id) (id : List ℕ) (base : IdentifierBase) → has_numeric list ≡ true → advance list id base ≡ raise_last list
-by_raise [] id base h = cc
-by_raise (x ∷ xs) id base h = rw h refl
+by_raise list id base h = grind arith
 
 pub value_run : {E : Type 0} (ds : List ℕ) (r : Result ℕ E) → ParsesUnsigned 64 10 ds r → list_all is_ascii_digit ds ≡ true → 0 < length ds
     → MatchResult r (λ n. digits_value 10 ds ≡ n) (λ _. 2 ^ 64 ≤ digits_value 10 ds)
@@ -86,17 +84,12 @@ advance_at list id base at n last =
 
 -- it is not empty
 pub some_numbered : (list : List Id) (n before : ℕ) → false ≡ is_empty (numbered list (Some n) before)
-some_numbered list n before = by (take before list)
-  where
-    by : (front : List Id) → false ≡ is_empty (front ++ Numeric n ∷ drop (before + 1) list)
-    by [] = refl
-    by (x ∷ front) = refl
+some_numbered list n before = grind arith
 
 -- one more identifier is looked at
 pub tracks_text : (list rest : List Id) (last : Option (ℕ × ℕ)) (text : List ℕ) → Tracks list (AlphaNumeric text ∷ rest) last
     → Tracks list rest last
-tracks_text list rest None text h = h
-tracks_text list rest (Some last) text h = h
+tracks_text list rest last text h = grind arith
 
 pub drop_next : (list : List Id) (i : ℕ) (rest : List Id) (x : Id) → drop i list ≡ x ∷ rest → rest ≡ drop (i + 1) list
 drop_next list i rest x e = ap (drop 1) (sym e) ∙ drop-drop 1 i list

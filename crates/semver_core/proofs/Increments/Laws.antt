@@ -1,12 +1,12 @@
 -- The versions that `inc` returns: they are the least ones, above the version, and keep its build.
 use Rattle.semver_core.proofs.Common.{Fault, advance, has_numeric, one_more, raise_last, list_text, is_empty}
 use Rattle.semver_core.proofs.Common.{AlphaNumeric, Id, Numeric, id_cmp, VersionValue, IsId, IdentifierBase, Bool, List}
-use Rattle.semver_core.proofs.Common.{[], ap, arith, false, length, refl, subst, true, ℕ, ◌++◌, ◌+◌, ◌-◌, ◌<◌, ◌∙◌, ◌∷◌}
+use Rattle.semver_core.proofs.Common.{[], arith, false, length, refl, subst, true, ℕ, ◌++◌, ◌+◌, ◌-◌, ◌<◌, ◌∷◌}
 use Rattle.semver_core.proofs.Common.{◌≡◌, nat_tests, and_parts, slice_cmp, tied_itself, ◌==◌, Err, Ok, Result, ⊤}
 use Rattle.semver_core.proofs.Common.{bytes_eq, Less, IsLeastVersion, InvalidIncrementArgument, Overflow, first_number}
 use Rattle.semver_core.proofs.Common.{identify, is_false, not-true, pre_step, ◌>>=◌, incremented, id_total, above_patch}
 use Rattle.semver_core.proofs.Common.{above_pre, below_more, pre_cmp, IsVersion, Value, IsOkAnd, codes, if◌then◌else◌}
-use Rattle.semver_core.proofs.Common.{nat_eq, not, ◌&&◌, ◌^◌, All-cons, All-nil, ordering_then}
+use Rattle.semver_core.proofs.Common.{nat_eq, not, ◌&&◌, ◌^◌, All-cons, All-nil}
 use Rattle.semver_core.specs.Increments.Table.{checked, by_word, next_major, next_minor, next_patch, release_of}
 use Rattle.semver_core.specs.Internal.Successors.{less_first, above_major, above_minor}
 use Rattle.semver_core.specs.Values.Versions.{is_release}
@@ -67,8 +67,7 @@ AboveList xs (Ok ys) = slice_cmp id_cmp xs ys ≡ Less
 AboveList xs (Err e) = ⊤
 
 kept_first : (x : Id) (xs : List Id) (r : Result (List Id) Fault) → AboveList xs r → AboveList (x ∷ xs) (r >>= λ list. Ok (x ∷ list))
-kept_first x xs (Ok ys) h = ap (λ r. ordering_then r (slice_cmp id_cmp xs ys)) (tied_itself id_total x) ∙ h
-kept_first x xs (Err e) h = tt
+kept_first x xs r h = grind (arith, tied_itself id_total x)
 
 raise_above : (xs : List Id) → has_numeric xs ≡ true → AboveList xs (raise_last xs)
 raise_above [] h = cc

@@ -47,8 +47,7 @@ module _ (mark rest word : List ℕ) (left others : List Id) (e : left ≡ Alpha
 
 -- all of a list is left, or nothing
 pub whole_left : (ids : List Id) → marked_list [] ids ≡ list_text ids
-whole_left [] = refl
-whole_left (x ∷ xs) = refl
+whole_left ids = grind arith
 
 pub none_left : (mark rest : List ℕ) (left : List Id) → left ≡ [] → (length rest == 0) ≡ bytes_eq rest (marked_list mark left)
 none_left mark [] left e = rw e refl

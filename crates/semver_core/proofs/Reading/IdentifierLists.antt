@@ -1,5 +1,5 @@
 -- Identifiers joined by dots: the longest list at the front of a text.
-use Rattle.semver_core.proofs.Text.Ends.{end_past, is_spelled, nothing_listed, nothing_spelled, runs_taken}
+use Rattle.semver_core.proofs.Text.Ends.{is_spelled, nothing_listed, nothing_spelled, runs_taken}
 use Rattle.semver_core.proofs.Text.Pieces.{list_len-append, runs_begin, runs_tail}
 use Rattle.semver_core.specs.Internal.Fronts.{begins_identifier, split_list}
 use Rattle.semver_core.specs.Internal.Reading.{list_len}

@@ -143,13 +143,6 @@ scan_stops text start r e =
     let n = prefix_len is_identifier_char (drop start text) in
     rw (ap (λ p. drop p text) (scan_end text start r e).0 ∙ sym (drop-drop n start text)) (prefix_ends is_identifier_char (drop start text))
 
--- the end of a run, whatever it writes
-pub run_place : (text : List ℕ) (start end : ℕ) → (end, None) ≡ run_from None start (drop start text) → start ≤ length text
-    → (end ≡ start + prefix_len is_identifier_char (drop start text)) × (end ≤ length text)
-run_place text start end e le =
-    let is = ap (λ (q : ℕ × Option ℕ). q.0) (e ∙ run_found None start (drop start text)) in
-    (is, omega (arith, is, le, prefix_len-le-length is_identifier_char (drop start text), length-drop start text))
-
 pub scan_number : (run : List ℕ) (v : ℕ) → Some v ≡ number_of_run (Some 0) run → identifier_of run ≡ Numeric v
 scan_number run v e = sym (id_spelled run) ∙ ap (λ n. id_by n run) (sym e)
 

@@ -19,8 +19,7 @@ later [] = []
 later (c ∷ rest) = pieces (c ∷ rest)
 
 later_some : (text : List ℕ) → list_all is_identifier (pieces text) ≡ true → later text ≡ pieces text
-later_some [] h = cc
-later_some (c ∷ rest) h = refl
+later_some text h = grind arith
 
 pub pieces_split : (text : List ℕ) → tail_runs (pieces text) ≡ true
     → (pieces text ≡ take (run_len text) text ∷ later (others text)) × (list_all is_identifier (later (others text)) ≡ true)
@@ -41,13 +40,11 @@ pieces_split (c ∷ rest) h = elim (cases_Bool (eqb c 46)) [
 
 listed_later : (text : List ℕ) → listed text ≡ map identifier_of (later text)
 unfolding listed
-listed_later [] = refl
-listed_later (c ∷ rest) = refl
+listed_later text = grind arith
 
 is_listed_later : (text : List ℕ) → is_listed text ≡ list_all is_identifier (later text)
 unfolding is_listed
-is_listed_later [] = refl
-is_listed_later (c ∷ rest) = refl
+is_listed_later text = grind arith
 
 pub listed_first : (text : List ℕ) → is_listed text ≡ true → 0 < length text
     → (listed text ≡ identifier_of (take (run_len text) text) ∷ listed (others text)) × (is_listed (others text) ≡ true)

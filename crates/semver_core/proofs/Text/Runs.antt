@@ -5,7 +5,7 @@ use Rattle.semver_core.proofs.Common.{false, get_or, length, ltb, refl, rules, s
 use Rattle.semver_core.proofs.Common.{◌∷◌, ◌≡◌, ◌≤◌, nat_tests, drop-drop, length-drop, is_ascii_digit, All, list_all}
 use Rattle.semver_core.proofs.Common.{prefix_len, IsCharBoundary, IsUtf8, ◌==◌, digits_value, list_len, map, ◌^◌, take-add}
 use Rattle.semver_core.proofs.Common.{slice_split_at, slice_split_none, prefix_len-le-length, IsCharBoundary-after_ascii}
-use Rattle.std.proofs.lemmas.{List.{get_or-take, length-take, get_or-drop}, List.Sums.prefix_len_passes, Str.Parse.IsDigitsTest}
+use Rattle.std.proofs.lemmas.{List.{get_or-take, length-take, get_or-drop}, List.Sums.prefix_len_passes}
 use Rattle.std.proofs.lemmas.Str.Parse.{IsNumeralModel, numerals_by_value}
 
 -- what holds of each character, and what follows from that
@@ -14,11 +14,8 @@ all_more p q [] h each = refl
 all_more p q (c ∷ rest) h each =
     let both = and_parts (p c) (list_all p rest) each in rw (h c both.0) (all_more p q rest h both.1)
 
-digits_test : IsDigitsTest (λ ds. list_all is_ascii_digit ds ≡ true)
-digits_test = search rules
-
 pub numerals : IsNumeralModel (λ ds. list_all is_ascii_digit ds ≡ true) (digits_value 10)
-numerals = numerals_by_value _ digits_test
+numerals = numerals_by_value _ (search rules)
 
 -- a run of digits is the number where it fits
 pub of_digits : (run : List ℕ) → list_all is_ascii_digit run ≡ true → digits_value 10 run < 2 ^ 64 → identifier_of run ≡ Numeric (digits_value 10 run)
@@ -104,9 +101,6 @@ list_next t h =
     let split = slice_split_at (λ c. c == 46) (take n t) 46 (take (list_len rest) rest) (run_no_dot t) refl in
     (rw taken (ap (map identifier_of) split), rw len (omega arith), more)
 
-prefix_some : (t : List ℕ) → begins is_identifier_char t ≡ true → 0 < prefix_len is_identifier_char t
-prefix_some t h = grind arith
-
 pub ascii : (c : ℕ) → is_identifier_char c ≡ true → c < 128
 ascii c h = grind (arith, nat_tests)
 
@@ -115,7 +109,7 @@ pub run_boundary : (text : List ℕ) (start end : ℕ) → IsUtf8 text → start
     → end ≡ start + prefix_len is_identifier_char (drop start text) → IsCharBoundary text end
 run_boundary text start end u le h is =
     let n = prefix_len is_identifier_char (drop start text) in
-    let some = prefix_some (drop start text) h in
+    let some : 0 < n = grind arith in
     let most = prefix_len-le-length is_identifier_char (drop start text) in
     let inside : start + (n - 1) < length text = omega (arith, length-drop start text) in
     let passes = prefix_len_passes is_identifier_char (drop start text) (n - 1) 0 (omega arith) in

@@ -192,13 +192,6 @@ divided_at limit text mark blank at t divided m b e =
       rest_is = refl;
     }
 
--- what the reader finds behind the mark and the whitespace is a version of the text
-version_sound : (limit : ℕ) (text mark blank : List ℕ) (at : ℕ) (v : VersionValue) → text ≡ mark ++ (blank ++ drop at text) → IsMark mark → IsBlank blank
-    → version_at limit text at ≡ Some v → Reads limit text v
-version_sound limit text mark blank at v divided m b e =
-    let found = bind_some (triple_at limit text at) _ v e in
-    rw (← some_inside _ v found.2) (divided_at limit text mark blank at found.0 divided m b found.1).reads
-
 -- the numbers, the identifiers and the rest of a version are found where its numbers begin
 pub read_at : (limit : ℕ) (text : List ℕ) (at : ℕ) (v : VersionValue) (r : Reads limit text v)
     → drop at text ≡ r.major ++ 46 ∷ (r.minor ++ 46 ∷ (r.patch ++ (r.pre_release ++ (r.build ++ r.rest))))
@@ -264,8 +257,10 @@ number_begins (c ∷ d) r some each = grind arith
 pub loose_some : (limit : ℕ) (text : List ℕ) (start : ℕ) (v : VersionValue) → IsAfterBlank text (mark_len text) start → version_at limit text start ≡ Some v → Reads limit text v
 loose_some limit text start v a e =
     let k = mark_len text in
-    version_sound limit text (take k text) (slice_range text k start) start v
-    (sym (take-append-drop k text) ∙ ap (λ r. take k text ++ r) (drop_split text k start a.after)) (mark_is text) a.blank e
+    let divided = sym (take-append-drop k text) ∙ ap (λ r. take k text ++ r) (drop_split text k start a.after) in
+    let found = bind_some (triple_at limit text start) _ v e in
+    rw (← some_inside _ v found.2)
+    (divided_at limit text (take k text) (slice_range text k start) start found.0 divided (mark_is text) a.blank found.1).reads
 
 pub loose_at : (limit : ℕ) (text : List ℕ) (start : ℕ) (v : VersionValue) → IsAfterBlank text (mark_len text) start → Reads limit text v → version_at limit text start ≡ Some v
 loose_at limit text start v a r =
