@@ -33,8 +33,7 @@ flat_same f g h xs = λ i. flat_map (λ x. h x i) xs
 
 -- what holds in any case holds of a failure
 pub on_err : {T E P : Type 0} (r : Result T E) → P → OnErr r P
-on_err (Ok x) p = tt
-on_err (Err e) p = p
+on_err r p = grind arith
 
 -- the joined list has an element where one of the lists does
 pub flat_some : {A B : Type 0} (f : A → List B) (xs : List A) (i : ℕ) (x : A) → i < length xs → x ≡ get_or xs i x

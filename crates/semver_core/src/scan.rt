@@ -370,6 +370,7 @@ fn mixed_run(bytes: &[u8], start: usize) -> (usize, Option<u64>)
 
 // The identifier at a place where a run begins, by what `scan_run` found there.
 #[inline(always)]
+#[tactic(auto, using(crate::proofs::Text::Digits::run_facts))]
 pub(crate) fn run_id(
     alloc: Global,
     text: &str,

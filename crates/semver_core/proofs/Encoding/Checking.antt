@@ -47,8 +47,7 @@ utf8_parts piece w h =
 
 piece_by : (piece tail u rest : List ℕ) → IsUtf8 (piece ++ u) → 0 ∷ tail ≡ text_key u ++ rest → IsUtf8 piece
 piece_by piece tail [] rest h e = rw append-nil at h
-piece_by piece tail (zero ∷ u) rest h e = (utf8_parts piece u h).0
-piece_by piece tail (suc d ∷ u) rest h e = cc
+piece_by piece tail (c ∷ u) rest h e = grind (arith, nat_tests, utf8_parts piece u)
 
 -- the bytes before the first 0 are UTF-8
 pub piece_utf8 : (others piece tail rest : List ℕ) → others ≡ piece ++ 0 ∷ tail → no_zero piece → IsTextFront others rest → IsUtf8 piece

@@ -28,8 +28,7 @@ all_low (c ∷ cs) h = grind (arith, list_all-append, low_bytes c, all_low cs)
 
 kept : (text : List ℕ) → list_all is_low text ≡ true → filter is_low (text_key text) ≡ text ++ 0 ∷ []
 kept [] h = refl
-kept (zero ∷ text) h = grind (arith, nat_tests, kept text)
-kept (suc c ∷ text) h = grind (arith, nat_tests, kept text)
+kept (c ∷ text) h = grind (arith, nat_tests, kept text)
 
 pub text_back : (key out last : List ℕ) (len at : ℕ) → IsTextKey key → out ≡ filter is_low (take at key) → length key ≤ at
     → last ≡ take (len - 1) out → len ≡ length out → IsUtf8 last × (text_key last ≡ key)

@@ -22,10 +22,7 @@ bind_twice r f g = grind arith
 raise_divided : (front back : List Id) (n : ℕ) → has_numeric back ≡ false
     → raise_last (front ++ Numeric n ∷ back) ≡ (one_more n >>= λ m. Ok (front ++ Numeric m ∷ back))
 raise_divided [] back n h = rw h refl
-raise_divided (AlphaNumeric text ∷ front) back n h =
-    ap (λ r. r >>= λ list. Ok (AlphaNumeric text ∷ list)) (raise_divided front back n h) ∙ bind_twice (one_more n) (λ m. front ++ Numeric m ∷ back) (λ list. AlphaNumeric text ∷ list)
-raise_divided (Numeric k ∷ front) back n h = rw (has_it front back n)
-    (ap (λ r. r >>= λ list. Ok (Numeric k ∷ list)) (raise_divided front back n h) ∙ bind_twice (one_more n) (λ m. front ++ Numeric m ∷ back) (λ list. Numeric k ∷ list))
+raise_divided (x ∷ front) back n h = grind (arith, has_it front back n, raise_divided front back n h)
 
 pub list_raised : (front back : List Id) (n : ℕ) → has_numeric back ≡ false → n < 2 ^ 64 - 1
     → raise_last (front ++ Numeric n ∷ back) ≡ Ok (front ++ Numeric (n + 1) ∷ back)
@@ -100,3 +97,7 @@ tracks_number list rest at n e =
       sym (take-append-drop at list) ∙ ap (λ r. take at list ++ r) (e ∙ ap (λ r. Numeric n ∷ r) behind),
       ap has_numeric (sym behind),
     )
+
+pub ruleset tracking = (tracks_text, tracks_number, drop_next)
+
+pub ruleset inc_laws = (list_raised, list_overflows, list_kept)

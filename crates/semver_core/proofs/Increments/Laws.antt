@@ -25,15 +25,6 @@ by_one P n f none some =
     pick (λ r. P (r >>= f)) (n == 2 ^ 64 - 1) (Err Overflow) (Ok (n + 1)) (λ h. none (grind (arith, nat_tests)))
     (λ h. some (grind (arith, nat_tests)))
 
-none_left : (xs : List Id) → is_empty xs ≡ true → xs ≡ []
-none_left xs h = grind arith
-
-filled : (xs : List Id) → is_empty xs ≡ false → 0 < length xs
-filled xs h = grind arith
-
-release_up : (v : VersionValue) → is_release v ≡ false → IsAbove v (release_of v)
-release_up v h = above_pre v (release_of v) refl refl refl (grind arith)
-
 first : (v : VersionValue) → IsVersion v → (a b c : ℕ) → a < 2 ^ 64 → b < 2 ^ 64 → c < 2 ^ 64
     → IsVersion (record { major = a; minor = b; patch = c; pre_release = Numeric 0 ∷ []; build = v.build })
 first v k a b c p q r =
@@ -56,10 +47,10 @@ prerelease_least v k rises none =
       first v k v.major v.minor (v.patch + 1) k.major k.minor (omega (arith, k.patch, other)),
       (
         above_patch v (record v { patch = v.patch + 1; pre_release = Numeric 0 ∷ [] }) refl refl (omega arith),
-        λ w this. least_after_release v w (none_left v.pre_release h) this,
+        λ w this. least_after_release v w (grind arith) this,
       ),
     )))
-    (λ h. rw (advance_zero v.pre_release h (none h)) (next_of_pre_release v k (filled v.pre_release h)))
+    (λ h. rw (advance_zero v.pre_release h (none h)) (next_of_pre_release v k (grind arith)))
 
 -- a list that goes on is above itself
 abbrev AboveList : List Id → Result (List Id) Fault → Type 0
@@ -72,19 +63,12 @@ kept_first x xs r h = grind (arith, tied_itself id_total x)
 raise_above : (xs : List Id) → has_numeric xs ≡ true → AboveList xs (raise_last xs)
 raise_above [] h = cc
 raise_above (AlphaNumeric text ∷ xs) h = kept_first (AlphaNumeric text) xs (raise_last xs) (raise_above xs h)
-raise_above (Numeric n ∷ xs) h = pick (AboveList (Numeric n ∷ xs)) (has_numeric xs)
-    (raise_last xs >>= λ list. Ok (Numeric n ∷ list)) (one_more n >>= λ m. Ok (Numeric m ∷ xs))
-    (λ k. kept_first (Numeric n) xs (raise_last xs) (raise_above xs k))
-    (λ k. pick (λ r. AboveList (Numeric n ∷ xs) (r >>= λ m. Ok (Numeric m ∷ xs))) (n == 2 ^ 64 - 1) (Err Overflow) (Ok (n + 1))
-    (λ o. tt) (λ o. less_first n (n + 1) (slice_cmp id_cmp xs xs) (omega arith)))
+raise_above (Numeric n ∷ xs) h =
+    grind (arith, nat_tests, kept_first (Numeric n) xs (raise_last xs), raise_above xs, less_first n (n + 1) (slice_cmp id_cmp xs xs))
 
 advance_above : (xs : List Id) (text : List ℕ) (base : IdentifierBase) → is_empty xs ≡ false → AboveList xs (advance xs text base)
 advance_above [] text base s = cc
-advance_above (x ∷ xs) text base s = pick (AboveList (x ∷ xs)) (has_numeric (x ∷ xs)) (raise_last (x ∷ xs)) _
-    (raise_above (x ∷ xs))
-    (λ h. pick (AboveList (x ∷ xs)) (is_false base && bytes_eq text (list_text (x ∷ xs)))
-    (Err (InvalidIncrementArgument (codes "identifier already exists")))
-    (Ok (x ∷ xs ++ Numeric (first_number base) ∷ [])) (λ e. tt) (λ e. below_more (x ∷ xs) (Numeric (first_number base)) []))
+advance_above (x ∷ xs) text base s = grind (arith, raise_above (x ∷ xs), below_more (x ∷ xs) (Numeric (first_number base)) [])
 
 -- what is returned has the build of the version, and is above it where Up holds
 abbrev Rises : VersionValue → Type 0 → Result VersionValue Fault → Type 0
@@ -95,11 +79,7 @@ module _ (v : VersionValue) (id : List ℕ) (base : IdentifierBase) (Up : Type 0
   -- the pre step of a version that is above by its numbers
   risen : (w : VersionValue) → w.build ≡ v.build → ((pre : List Id) → IsAbove v (record w { pre_release = pre }))
       → Rises v Up (pre_step id base w)
-  risen w e above = by (advance w.pre_release id base)
-    where
-      by : (r : Result (List Id) Fault) → Rises v Up (r >>= λ list. Ok (record w { pre_release = identify id base list }))
-      by (Ok list) = (e, λ up. above (identify id base list))
-      by (Err e) = tt
+  risen w e above = grind arith
 
   -- a number that rises, without the pre step and with it
   rises : (n : ℕ) (f : ℕ → VersionValue) → (f (n + 1)).build ≡ v.build
@@ -134,7 +114,7 @@ module _ (v : VersionValue) (id : List ℕ) (base : IdentifierBase) (Up : Type 0
       by (Err e) h = tt
 
   released : is_release v ≡ false → Rises v Up (Ok (release_of v))
-  released h = (refl, λ up. release_up v h)
+  released h = (refl, λ up. above_pre v (release_of v) refl refl refl (grind arith))
 
   word_rises : (word : List ℕ) → (Up → id ≡ []) → (Up → word ≡ codes "pre" → is_release v ≡ false)
       → Rises v Up (by_word word id base v)

@@ -9,8 +9,7 @@ use Rattle.std.proofs.Math.Bool.{and_assoc}
 pub compared : (front text more : List ℕ) → bytes_eq text (front ++ more)
     ≡ (bytes_eq (take (length front) text) front && bytes_eq (drop (length front) text) more)
 compared [] text more = refl
-compared (c ∷ front) [] more = refl
-compared (c ∷ front) (d ∷ text) more = rw (and_assoc, compared front text more) refl
+compared (c ∷ front) text more = grind (arith, compared front (drop 1 text) more)
 
 -- ---- a list that is left, with its mark, begins with the mark and a text
 

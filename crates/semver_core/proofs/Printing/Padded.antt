@@ -55,9 +55,6 @@ abbrev behind : List (List ℕ) → List (List ℕ)
 behind [] = []
 behind (run ∷ runs) = runs
 
-onto_padded : (c d : ℕ) (runs : List (List ℕ)) → first_padded (onto_first c (onto_first d runs)) ≡ (c == 48)
-onto_padded c d runs = grind (arith, nat_tests)
-
 onto_behind : (c : ℕ) (runs : List (List ℕ)) → behind (onto_first c runs) ≡ behind runs
 onto_behind c runs = grind arith
 
@@ -67,7 +64,7 @@ any_split runs = grind arith
 first_is : (text : List ℕ) → first_padded (pieces text) ≡ begins_padded_run text
 first_is [] = refl
 first_is (c ∷ []) = grind (arith, nat_tests)
-first_is (c ∷ d ∷ rest) = grind (arith, nat_tests, onto_padded c d (pieces rest))
+first_is (c ∷ d ∷ rest) = grind (arith, nat_tests)
 
 behind_is : (text : List ℕ) → list_any is_padded (behind (pieces text)) ≡ behind_padded text
 unfolding behind_padded
@@ -76,7 +73,7 @@ behind_is (c ∷ rest) = grind (arith, nat_tests, any_split (pieces rest), first
 
 has_is : (text : List ℕ) → has_padded text ≡ (begins_padded_run text || behind_padded text)
 unfolding has_padded
-has_is text = any_split (pieces text) ∙ rw (first_is text, behind_is text) refl
+has_is text = grind (arith, first_is text, behind_is text)
 
 pub padded_first : (text : List ℕ) → begins_padded_run text ≡ true → has_padded text ≡ true
 padded_first text h = has_is text ∙ rw h refl

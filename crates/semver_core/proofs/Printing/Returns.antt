@@ -37,12 +37,10 @@ decimal_identifier n small =
 
 -- the text of an identifier is a run that spells it
 pub id_run : (id : Id) → is_normal id ≡ true → is_identifier (id_text id) ≡ true
-id_run (Numeric n) h = decimal_run n (ltb-true n (2 ^ 64) h)
-id_run (AlphaNumeric text) h = first_so (is_identifier text) (not (is_u64_text text)) h
+id_run id h = grind (arith, nat_tests, decimal_run)
 
 pub id_spelled : (id : Id) → is_normal id ≡ true → identifier_of (id_text id) ≡ id
-id_spelled (Numeric n) h = decimal_identifier n (ltb-true n (2 ^ 64) h)
-id_spelled (AlphaNumeric text) h = rw (not-true (is_u64_text text) (and_parts (is_identifier text) _ h).1) refl
+id_spelled id h = grind (arith, nat_tests, decimal_identifier)
 
 -- ---- lists joined by dots
 

@@ -66,8 +66,7 @@ pub ruleset passing = (passed_none, passed_more, passed_room, passed_stop, passe
 
 pub no_front : (bytes : List ℕ) → length bytes ≡ 0 → [] ≡ take (utf8_valid_len bytes) bytes
 unfolding utf8_valid_len
-no_front [] e = refl
-no_front (x ∷ xs) e = absurd (omega (arith, e))
+no_front bytes e = grind arith
 
 pub front_is : (bytes valid invalid rest : List ℕ) → bytes ≡ valid ++ (invalid ++ rest) → length valid ≡ utf8_valid_len bytes
     → valid ≡ take (utf8_valid_len bytes) bytes

@@ -72,8 +72,7 @@ number_found limit text at (Some found) e =
 
 pub number_none : (limit : ℕ) (text : List ℕ) (at : ℕ) (r : Option (ℕ × ℕ)) → r ≡ number_at limit text at
     → IfNone r ((n : ℕ) → NoPieceAt (λ digits rest. IsWholeNumber limit digits rest n) text at)
-number_none limit text at None e = λ n digits rest d w. cc (e, (number_complete limit text at n digits rest d w).0)
-number_none limit text at (Some found) e = tt
+number_none limit text at r e = grind (arith, number_complete)
 
 -- ---- A run that is read in one pass.
 
@@ -164,3 +163,5 @@ pub ruleset grown_either = (grown_small, grown_big)
 pub ruleset run_ends = (run_step, run_stop, run_past)
 
 pub ruleset scanned = (scan_number, scan_text)
+
+pub ruleset run_facts = (scan_end, scan_fits, scan_number, scan_text)

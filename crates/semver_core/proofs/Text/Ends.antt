@@ -37,13 +37,11 @@ runs_taken t h = begun_runs (take (list_len t) t) (begins_taken t h) (taken_runs
 
 spelled : (s : List ℕ) → list_all is_identifier (pieces s) ≡ true → listed s ≡ map identifier_of (pieces s)
 unfolding listed
-spelled [] h = cc
-spelled (c ∷ rest) h = refl
+spelled s h = grind arith
 
 pub is_spelled : (s : List ℕ) → list_all is_identifier (pieces s) ≡ true → is_listed s ≡ true
 unfolding is_listed
-is_spelled [] h = cc
-is_spelled (c ∷ rest) h = h
+is_spelled s h = grind arith
 
 pub cut_listed : (text : List ℕ) (start end : ℕ) → end ≡ start + list_len (drop start text)
     → begins is_identifier_char (drop start text) ≡ true → is_listed (take (end - start) (drop start text)) ≡ true
@@ -77,8 +75,7 @@ pub ruleset lists_cut = (cut_listed, cut_found, take_rest, nothing_spelled, noth
 -- a whole text spells a list
 listed_runs : (text : List ℕ) → 0 < length text → is_listed text ≡ list_all is_identifier (pieces text)
 unfolding is_listed
-listed_runs [] h = absurd (omega arith)
-listed_runs (c ∷ rest) h = refl
+listed_runs text h = grind arith
 
 whole_spelled : (text : List ℕ) → begins is_identifier_char text ≡ true → list_len text ≡ length text → is_listed text ≡ true
 whole_spelled text h e = rw (ap (λ n. take n text) e ∙ take_all (length text) text (omega arith)) at (is_spelled (take (list_len text) text) (runs_taken text h))

@@ -18,8 +18,7 @@ at_end_some : {A : Type 0} (rest : List ℕ) (x y : A) → at_end rest x ≡ Som
 at_end_some rest x y e = grind arith
 
 pub small_is : (text : List ℕ) → IsMark (take (small_len text) text) × (take (small_len text) text ≡ 86 ∷ [] → ⊥)
-small_is [] = (no_mark, λ f. cc f)
-small_is (c ∷ rest) = grind (arith, nat_tests, no_mark, small_mark)
+small_is text = grind (arith, nat_tests, no_mark, small_mark)
 
 pub nothing_blank : IsBlank []
 nothing_blank = record { characters = []; each = refl; spelled = refl }

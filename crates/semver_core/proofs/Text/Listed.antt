@@ -47,8 +47,7 @@ listed_all (c ∷ rest) ids end h some e =
 
 pub listed_none : (text : List ℕ) → length text ≡ 0 → listed text ≡ []
 unfolding listed
-listed_none [] h = refl
-listed_none (c ∷ rest) h = absurd (omega arith)
+listed_none text h = grind arith
 
 pub listed_count : (text : List ℕ) → 0 < length text → length (listed text) ≡ count_by (λ c. c == 46) text + 1
 unfolding listed
@@ -58,7 +57,7 @@ listed_count (c ∷ rest) h = length-map (pieces (c ∷ rest)) identifier_of ∙
 pub listed_some : (text : List ℕ) → 0 < length text → 0 < length (listed text)
 listed_some text h = omega (arith, listed_count text h)
 
-pub ruleset listed_read = (listed_utf8, listed_begins, listed_none)
+pub ruleset listed_read = (listed_utf8, listed_begins, listed_none, append-nil)
 
 pub ruleset listed_counts = (listed_count, listed_none)
 
@@ -132,3 +131,5 @@ listed_empty [] h = refl
 listed_empty (c ∷ rest) h = absurd (omega (arith, listed_some (c ∷ rest) (omega arith), ap length h))
 
 pub ruleset listed_bounds = (listed_most, length-map)
+
+pub ruleset zero_texts = (zeros_listed, listed_zeros, listed_none)

@@ -111,12 +111,10 @@ pre_sound text at = elim (cases_Bool (begins (λ b. b == 45) (drop at text))) [
 
 -- nothing stands there
 pub none_pre : (text : List ℕ) (at : ℕ) (r : List ℕ) → drop at text ≡ r → begins_pre_release r ≡ false → pre_release_at text at ≡ ([], at)
-none_pre text at [] e none = grind (arith, list_none)
-none_pre text at (c ∷ r) e none = grind (arith, drop_next at text r c e)
+none_pre text at r e none = grind (arith, list_none, drop_next)
 
 pub none_build : (text : List ℕ) (at : ℕ) (r : List ℕ) → drop at text ≡ r → begins_build r ≡ false → build_at text at ≡ ([], at)
-none_build text at [] e none = rw e refl
-none_build text at (c ∷ r) e none = grind (arith, drop_next at text r c e)
+none_build text at r e none = grind (arith, drop_next)
 
 build_sound : (text : List ℕ) (at : ℕ)
     → IsPieceAt (λ piece rest. IsBuild piece rest (build_at text at).0) text at (build_at text at).1
@@ -206,8 +204,7 @@ read_at limit text at v r e =
 
 -- the first byte of whitespace is neither a digit nor a mark
 blank_byte : (t : List ℕ) → BeginsBlank t → begins (λ b. is_ascii_digit b || b == 118 || b == 86) t ≡ false
-blank_byte [] b = refl
-blank_byte (c ∷ rest) b = grind (arith, nat_tests, char_from_byte (c ∷ rest) b.rest b.character b.spelled)
+blank_byte t b = grind (arith, nat_tests, char_from_byte t b.rest b.character b.spelled)
 
 pub small_digit : (t : List ℕ) → begins is_ascii_digit t ≡ true → BeginsBlank t → ⊥
 small_digit t h b = grind (arith, blank_byte t b)
@@ -216,7 +213,7 @@ begins_blank : (c : ℕ) (cs D : List ℕ) → list_all is_whitespace (c ∷ cs)
 begins_blank c cs D h = record {
   character = c;
   rest = encode_utf8_all cs ++ D;
-  passes = first_so (is_whitespace c) (list_all is_whitespace cs) h;
+  passes = grind arith;
   spelled = append_assoc (encode_utf8 c) (encode_utf8_all cs) D;
 }
 
@@ -234,8 +231,7 @@ pub mark_boundary : (text : List ℕ) (n : ℕ) → IsUtf8 text → n ≡ mark_l
 mark_boundary text n u e = grind (arith, nat_tests, IsCharBoundary-start text u, IsCharBoundary-after_ascii text 0 u)
 
 pub mark_is : (text : List ℕ) → IsMark (take (mark_len text) text)
-mark_is [] = no_mark
-mark_is (c ∷ rest) = grind (arith, nat_tests, no_mark, small_mark, capital_mark)
+mark_is text = grind (arith, nat_tests, no_mark, small_mark, capital_mark)
 
 pub no_mark_at : (c : ℕ) (t : List ℕ) → ((eqb c 118 || eqb c 86) ≡ true → ⊥) → mark_len (c ∷ t) ≡ 0
 no_mark_at c t never = grind arith

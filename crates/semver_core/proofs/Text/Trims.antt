@@ -253,7 +253,7 @@ trim_in_two text rest middle start utf8 a r m =
 
 pub trimmed_none : (text : List ℕ) → (length text == 0) ≡ true → IsTrim text text
 trimmed_none [] h = rw (drop_spaces-nil, drop_end-all [] drop_spaces-nil) at (trim_is_middle [] IsUtf8-nil)
-trimmed_none (b ∷ rest) h = absurd (grind (arith, nat_tests))
+trimmed_none (b ∷ rest) h = grind (arith, nat_tests)
 
 visible_small : (b : ℕ) → is_ascii_graphic b ≡ true → b < 128
 visible_small b h = grind (arith, nat_tests)

@@ -35,3 +35,5 @@ alone lists id fits pre none =
     let first : lists.pre_len ≡ 1 = sym (length-take-le lists.pre_len (ids_view lists.ids.items) (rw count fits)) ∙ ap length pre in
     let rest : length lists.ids.items - lists.pre_len ≡ 0 = rw count at (sym (length-drop lists.pre_len (ids_view lists.ids.items)) ∙ ap length none) in
     (omega arith, first)
+
+pub ruleset split_views = (take-map, drop-map)
