@@ -1,7 +1,7 @@
 -- Shared with the layers above: tests of what a comparison answers, the order of cuts, and the points of what two spans have in
 -- common or one leaves of another.
-use Rattle.semver_core.proofs.Common.{Bool, None, Option, Some, ap, arith, false, inl, inr, refl, subst, sym, true, ℕ, ◌||◌, ◌∙◌}
-use Rattle.semver_core.proofs.Common.{◌≡◌, and_parts, cases_Bool, tied_itself, is_le, clip, Span}
+use Rattle.semver_core.proofs.Common.{Bool, None, Option, Some, ap, arith, false, refl, subst, sym, true, ℕ, ◌||◌, ◌∙◌}
+use Rattle.semver_core.proofs.Common.{◌≡◌, and_parts, tied_itself, is_le, clip, Span}
 use Rattle.semver_core.proofs.Common.{greater_lower, is_interval, lesser_upper, meet, option_holds, remainders, is_some, not}
 use Rattle.semver_core.proofs.Common.{◌&&◌, upto, ordering_reverse, Ordering, cond_both}
 use Rattle.semver_core.specs.Cuts.{Cut, Start, Beside, End, cut_cmp, is_past, lower_cut, upper_cut, interval, holds, left_below}
@@ -81,24 +81,15 @@ module _ {V : Type 0} {R : V → V → Ordering} (o : IsTotalOrder R) where
   -- the bound that is picked against any cut
   pub greater_below : (b c : Bound V) (x : Cut V)
       → lt (lower_cut (greater_lower R b c)) x ≡ (lt (lower_cut b) x && lt (lower_cut c) x)
-  greater_below b c x = elim (cases_Bool (is_gt (cut_cmp R (lower_cut b) (lower_cut c)))) [
-    | inl h ↦ rw h (grind (arith, gt_lt (lower_cut b) (lower_cut c), lt_trans (lower_cut c) (lower_cut b) x))
-    | inr h ↦ rw h (grind (arith, gt_lt (lower_cut b) (lower_cut c), upto_below (lower_cut b) (lower_cut c) x))
-  ]
+  greater_below b c x = grind (arith, gt_lt, lt_trans, upto_below)
 
   pub below_greater : (b c : Bound V) (x : Cut V)
       → lt x (lower_cut (greater_lower R b c)) ≡ (lt x (lower_cut b) || lt x (lower_cut c))
-  below_greater b c x = elim (cases_Bool (is_gt (cut_cmp R (lower_cut b) (lower_cut c)))) [
-    | inl h ↦ rw h (grind (arith, gt_lt (lower_cut b) (lower_cut c), lt_trans x (lower_cut c) (lower_cut b)))
-    | inr h ↦ rw h (grind (arith, gt_lt (lower_cut b) (lower_cut c), below_upto x (lower_cut b) (lower_cut c)))
-  ]
+  below_greater b c x = grind (arith, gt_lt, lt_trans, below_upto)
 
   pub below_lesser : (b c : Bound V) (x : Cut V)
       → lt x (upper_cut (lesser_upper R b c)) ≡ (lt x (upper_cut b) && lt x (upper_cut c))
-  below_lesser b c x = elim (cases_Bool (is_gt (cut_cmp R (upper_cut b) (upper_cut c)))) [
-    | inl h ↦ rw h (grind (arith, gt_lt (upper_cut b) (upper_cut c), lt_trans x (upper_cut c) (upper_cut b)))
-    | inr h ↦ rw h (grind (arith, gt_lt (upper_cut b) (upper_cut c), below_upto x (upper_cut b) (upper_cut c)))
-  ]
+  below_lesser b c x = grind (arith, gt_lt, lt_trans, below_upto)
 
   -- the greater of two lower bounds and the lesser of two upper ones are in order where all four are
   pub between : (b c d e : Bound V) → lt (lower_cut (greater_lower R b c)) (upper_cut (lesser_upper R d e))

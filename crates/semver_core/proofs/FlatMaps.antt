@@ -1,7 +1,7 @@
 -- Lists that are joined from a list for each element of another, and tests of their elements.
 use Rattle.std.proofs.Common.{append_assoc, ◌≡◌, refl, sym, ◌∙◌, ap, ℕ, ◌+◌, ◌<◌, Bool, true, false, ◌&&◌, ◌||◌, List, [], ◌∷◌, ◌++◌}
 use Rattle.std.proofs.{lemmas.Bool.Decides.{nat_tests}, lemmas.Grind.{common_steps, flat_map-append}}
-use Rattle.std.proofs.Common.{length, get_or, take, not, arith, Option, is_some, option_to_list, map, Result, Ok, Err, OnErr}
+use Rattle.std.proofs.Common.{length, get_or, take, not, arith, Option, is_some, option_to_list, map, Result, OnErr}
 use Rattle.std.proofs.{lemmas.Bool.{and_parts, or_cases}, lemmas.List.{append-nil, take_more}}
 use Rattle.std.proofs.lemmas.List.Folds.{Any-from_list_any, length-flat_map-take, list_all-append, list_any-append, list_any_at}
 use Rattle.semver_core.specs.Lists.{is_empty}

@@ -1,6 +1,6 @@
 -- A version is made or copied without memory where it has no identifiers, or the pre-release 0 alone.
 use Rattle.semver_core.proofs.Common.{AlphaNumeric, Id, Numeric, VersionValue, HasIdentifiers, List, [], arith, inl, inr, refl}
-use Rattle.semver_core.proofs.Common.{true, ◌∷◌, ◌≡◌, nat_tests, cases_Bool, eqb-true, ◌==◌, Err, Ok, Result}
+use Rattle.semver_core.proofs.Common.{true, ◌∷◌, ◌≡◌, nat_tests, cases_Bool, eqb-true, ◌==◌, Result}
 use Rattle.{semver_core.specs.Values.Memory.takes_memory, std.specs.Prelude.{IsOk, OnErr}}
 
 taken : (v : VersionValue) (pre build : List Id) → v.pre_release ≡ pre → v.build ≡ build → HasIdentifiers v

@@ -1,14 +1,12 @@
 -- Comparing the bytes of numbers is comparing the numbers.
-use Rattle.std.proofs.Common.{ℕ, ◌≡◌, ◌<◌, ◌≤◌, ◌^◌, ◌*◌, ◌+◌, ◌/◌, ◌%◌, ◌++◌, ◌∷◌, List, [], refl, ap, arith, zero, suc, ◌∙◌, sym}
-use Rattle.std.specs.Cmp.Lexicographic.{slice_cmp}
+use Rattle.semver_core.proofs.Common.{ℕ, ◌≡◌, ◌<◌, ◌≤◌, ◌^◌, ◌*◌, ◌+◌, ◌/◌, ◌%◌, ◌++◌, ◌∷◌, List, [], refl, ap}
+use Rattle.semver_core.proofs.Common.{arith, zero, suc, ◌∙◌, sym, slice_cmp, ordering_then, Ordering, Less, Equal}
+use Rattle.semver_core.proofs.Common.{Greater, nat_tests}
 use Rattle.std.specs.Cmp.{nat_cmp_is, ranks}
 use Rattle.std.specs.Int.{byte_at, bytes_high_first}
-use Rattle.std.specs.Ordering.{MatchOrdering, nat_cmp, ordering_then}
-use Rattle.std.specs.declared.cmp.Ordering.{Ordering}
-use Rattle.std.specs.declared.cmp.Ordering.TheVariants.{Less, Equal, Greater}
+use Rattle.std.specs.Ordering.{MatchOrdering, nat_cmp}
 use Rattle.std.proofs.lemmas.Nat.{mod-mul-add}
 use Rattle.std.proofs.Math.Nat.{div-add-mod, mod-eq_of_lt, mod-lt, mul-le-mul_left, one-le-pow, pow-suc}
-use Rattle.std.proofs.lemmas.Bool.Decides.{nat_tests}
 use Rattle.semver_core.specs.Keys.{number_key}
 use Rattle.semver_core.specs.Internal.KeyReading.{IsLow, low}
 

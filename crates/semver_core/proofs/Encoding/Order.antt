@@ -1,18 +1,14 @@
 -- Comparing keys is comparing versions.
-use Rattle.std.proofs.Common.{ℕ, ◌≡◌, ◌++◌, ◌∷◌, List, [], refl, ap, arith, zero, suc, ◌∙◌, sym, append-nil, append_assoc}
-use Rattle.std.specs.Cmp.{tied_itself}
-use Rattle.std.specs.Cmp.Lexicographic.{nat_list_cmp_total, slice_cmp}
-use Rattle.std.specs.Ordering.{nat_cmp, ordering_then}
-use Rattle.std.specs.Prelude.{All}
+use Rattle.semver_core.proofs.Common.{ℕ, ◌≡◌, ◌++◌, ◌∷◌, List, [], refl, ap, arith, zero, suc, ◌∙◌, sym, append-nil}
+use Rattle.semver_core.proofs.Common.{append_assoc, tied_itself, slice_cmp, ordering_then, All, Ordering, Less}
+use Rattle.semver_core.proofs.Common.{Equal, Greater, AlphaNumeric, Id, Numeric, id_cmp, pre_cmp, precedence, IsId}
+use Rattle.semver_core.proofs.Common.{IsVersion, VersionValue}
+use Rattle.std.specs.Cmp.Lexicographic.{nat_list_cmp_total}
+use Rattle.std.specs.Ordering.{nat_cmp}
 use Rattle.std.proofs.lemmas.List.Elements.{All-head, All-tail}
-use Rattle.std.specs.declared.cmp.Ordering.{Ordering}
-use Rattle.std.specs.declared.cmp.Ordering.TheVariants.{Less, Equal, Greater}
 use Rattle.semver_core.proofs.Encoding.Numbers.{bytes_cmp, cmp_above, cmp_below, number_cmp, then_assoc}
 use Rattle.semver_core.specs.Internal.KeyReading.{IsLow, low}
 use Rattle.semver_core.specs.Keys.{id_key, ids_key, key, pre_key, text_key}
-use Rattle.semver_core.specs.Text.Identifiers.{AlphaNumeric, Id, Numeric}
-use Rattle.semver_core.specs.Values.Order.{id_cmp, pre_cmp, precedence}
-use Rattle.semver_core.specs.Values.Versions.{IsId, IsVersion, VersionValue}
 
 pub then_equal : (a : Ordering) → ordering_then a Equal ≡ a
 then_equal a = grind arith

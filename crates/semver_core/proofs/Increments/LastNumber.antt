@@ -5,7 +5,7 @@ use Rattle.semver_core.proofs.Common.{Some, [], ap, arith, false, inl, inr, leng
 use Rattle.semver_core.proofs.Common.{take, true, ℕ, ◌++◌, ◌+◌, ◌-◌, ◌<◌, ◌∙◌, ◌∷◌, ◌≡◌, ◌≤◌, nat_tests, cases_lt}
 use Rattle.semver_core.proofs.Common.{is_ascii_digit, tied_itself, list_all, ◌==◌, Err, Ok, Result, digits_value, bytes_eq}
 use Rattle.semver_core.proofs.Common.{Overflow, is_kept, ◌>>=◌, Tracks, id_total, ◌^◌}
-use Rattle.semver_core.proofs.Common.{drop, take-append-drop, drop-drop}
+use Rattle.semver_core.proofs.Common.{not, ◌&&◌, drop, take-append-drop, drop-drop}
 use Rattle.semver_core.specs.{Increments.Table.asked, Internal.OrderLaws.id_same}
 use Rattle.semver_core.specs.Internal.NextIds.{numbered}
 use Rattle.std.proofs.lemmas.{List.{Folds.list_any-append}, Str.Parse.parse_digits}
@@ -38,9 +38,7 @@ list_kept id list = (there list, λ p. rw p.2 (ap is_eq (tied_itself id_total (a
   where
     there : (list : List Id) → IsTrue (is_kept id list) → (n : ℕ) × (rest : List Id) × (list ≡ asked id ∷ Numeric n ∷ rest)
     there (x ∷ Numeric n ∷ rest) h = (n, rest, ap (λ y. y ∷ Numeric n ∷ rest) (id_same x (asked id) ((Equal-is _).0 h)))
-    there (x ∷ []) h = cc
-    there (x ∷ y ∷ rest) h = cc
-    there list h = cc
+    there list h = absurd (grind arith)
 
 by_raise : (list : List Id) (id : List ℕ) (base : IdentifierBase) → has_numeric list ≡ true → advance list id base ≡ raise_last list
 by_raise list id base h = grind arith
@@ -54,23 +52,15 @@ value_run {E} ds (Err e) h d some = elim (cases_lt (digits_value 10 ds) (2 ^ 64)
 ]
 
 -- an identifier matches the asked one
-pub asked_number : (wanted : List ℕ) (n : ℕ) → list_all is_ascii_digit wanted ≡ true
-    → is_eq (id_cmp (Numeric n) (asked wanted)) ≡ (digits_value 10 wanted == n)
-asked_number wanted n d = rw d (grind (arith, nat_tests))
+pub asked_number : (wanted : List ℕ) (n : ℕ)
+    → is_eq (id_cmp (Numeric n) (asked wanted)) ≡ (list_all is_ascii_digit wanted && digits_value 10 wanted == n)
+asked_number wanted n = grind (arith, nat_tests)
 
-pub asked_other : (wanted : List ℕ) (n : ℕ) → list_all is_ascii_digit wanted ≡ false
-    → is_eq (id_cmp (Numeric n) (asked wanted)) ≡ false
-asked_other wanted n d = rw d refl
+pub asked_text : (wanted text : List ℕ)
+    → is_eq (id_cmp (AlphaNumeric text) (asked wanted)) ≡ (not (list_all is_ascii_digit wanted) && bytes_eq text wanted)
+asked_text wanted text = grind (arith, is_eq-slice_cmp text wanted)
 
-pub asked_text : (wanted text : List ℕ) → list_all is_ascii_digit wanted ≡ false
-    → is_eq (id_cmp (AlphaNumeric text) (asked wanted)) ≡ bytes_eq text wanted
-asked_text wanted text d = rw d (is_eq-slice_cmp text wanted)
-
-pub asked_digits : (wanted text : List ℕ) → list_all is_ascii_digit wanted ≡ true
-    → is_eq (id_cmp (AlphaNumeric text) (asked wanted)) ≡ false
-asked_digits wanted text d = rw d refl
-
-pub ruleset asked_matches = (asked_number, asked_other, asked_text, asked_digits)
+pub ruleset asked_matches = (asked_number, asked_text)
 
 -- a list with a last number goes on by raising it
 pub advance_at : (list : List Id) (id : List ℕ) (base : IdentifierBase) (at n : ℕ) → Tracks list [] (Some (at, n))

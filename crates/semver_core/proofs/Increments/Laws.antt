@@ -1,12 +1,12 @@
 -- The versions that `inc` returns: they are the least ones, above the version, and keep its build.
-use Rattle.semver_core.proofs.Common.{Fault, advance, has_numeric, one_more, raise_last, list_text, is_empty}
-use Rattle.semver_core.proofs.Common.{AlphaNumeric, Id, Numeric, id_cmp, VersionValue, IsId, IdentifierBase, Bool, List}
-use Rattle.semver_core.proofs.Common.{[], arith, false, length, refl, subst, true, ℕ, ◌++◌, ◌+◌, ◌-◌, ◌<◌, ◌∷◌}
+use Rattle.semver_core.proofs.Common.{Fault, advance, has_numeric, one_more, raise_last, is_empty}
+use Rattle.semver_core.proofs.Common.{AlphaNumeric, Id, Numeric, id_cmp, VersionValue, IsId, IdentifierBase, List}
+use Rattle.semver_core.proofs.Common.{[], arith, false, refl, subst, true, ℕ, ◌++◌, ◌+◌, ◌-◌, ◌<◌, ◌∷◌}
 use Rattle.semver_core.proofs.Common.{◌≡◌, nat_tests, and_parts, slice_cmp, tied_itself, ◌==◌, Err, Ok, Result, ⊤}
-use Rattle.semver_core.proofs.Common.{bytes_eq, Less, IsLeastVersion, InvalidIncrementArgument, Overflow, first_number}
-use Rattle.semver_core.proofs.Common.{identify, is_false, not-true, pre_step, ◌>>=◌, incremented, id_total, above_patch}
+use Rattle.semver_core.proofs.Common.{bytes_eq, Less, IsLeastVersion, Overflow, first_number}
+use Rattle.semver_core.proofs.Common.{identify, not-true, pre_step, ◌>>=◌, incremented, id_total, above_patch}
 use Rattle.semver_core.proofs.Common.{above_pre, below_more, pre_cmp, IsVersion, Value, IsOkAnd, codes, if◌then◌else◌}
-use Rattle.semver_core.proofs.Common.{nat_eq, not, ◌&&◌, ◌^◌, All-cons, All-nil}
+use Rattle.semver_core.proofs.Common.{cond_both, nat_eq, not, ◌&&◌, ◌^◌, All-cons, All-nil}
 use Rattle.semver_core.specs.Increments.Table.{checked, by_word, next_major, next_minor, next_patch, release_of}
 use Rattle.semver_core.specs.Internal.Successors.{less_first, above_major, above_minor}
 use Rattle.semver_core.specs.Values.Versions.{is_release}
@@ -14,15 +14,11 @@ use Rattle.std.proofs.lemmas.Slice.Eq.{bytes_eq-Decides}
 use Rattle.std.specs.List.{starts_with}
 use Rattle.semver_core.proofs.Values.NextLaws.{IsAbove, least_after_release, next_of_pre_release}
 
-pick : {A : Type 0} (P : A → Type 0) (t : Bool) (x y : A) → (t ≡ true → P x) → (t ≡ false → P y) → P (if t then x else y)
-pick P true x y f g = f refl
-pick P false x y f g = g refl
-
 -- one more, or the greatest number
 by_one : (P : Result VersionValue Fault → Type 0) (n : ℕ) (f : ℕ → Result VersionValue Fault)
     → (n ≡ 2 ^ 64 - 1 → P (Err Overflow)) → ((n ≡ 2 ^ 64 - 1 → ⊥) → P (f (n + 1))) → P (one_more n >>= f)
 by_one P n f none some =
-    pick (λ r. P (r >>= f)) (n == 2 ^ 64 - 1) (Err Overflow) (Ok (n + 1)) (λ h. none (grind (arith, nat_tests)))
+    cond_both (n == 2 ^ 64 - 1) (Err Overflow) (Ok (n + 1)) (λ r. P (r >>= f)) (λ h. none (grind (arith, nat_tests)))
     (λ h. some (grind (arith, nat_tests)))
 
 first : (v : VersionValue) → IsVersion v → (a b c : ℕ) → a < 2 ^ 64 → b < 2 ^ 64 → c < 2 ^ 64
@@ -41,8 +37,7 @@ pub prerelease_least : (v : VersionValue) → IsVersion v → (is_release v ≡ 
     → (is_release v ≡ false → has_numeric v.pre_release ≡ false)
     → IsOkAnd (incremented v (codes "prerelease") [] (Value 0)) (IsLeastVersion (IsAbove v))
 prerelease_least v k rises none =
-    pick (λ r. IsOkAnd r (IsLeastVersion (IsAbove v))) (is_release v) (next_patch v >>= pre_step [] (Value 0))
-    (pre_step [] (Value 0) v) (λ h. by_one (λ r. IsOkAnd (r >>= pre_step [] (Value 0)) (IsLeastVersion (IsAbove v))) v.patch
+    cond_both (is_release v) (next_patch v >>= pre_step [] (Value 0)) (pre_step [] (Value 0) v) (λ r. IsOkAnd r (IsLeastVersion (IsAbove v))) (λ h. by_one (λ r. IsOkAnd (r >>= pre_step [] (Value 0)) (IsLeastVersion (IsAbove v))) v.patch
     (λ n. Ok (record v { patch = n; pre_release = [] })) (λ e. omega (arith, e, rises h)) (λ other. (
       first v k v.major v.minor (v.patch + 1) k.major k.minor (omega (arith, k.patch, other)),
       (
@@ -120,20 +115,20 @@ module _ (v : VersionValue) (id : List ℕ) (base : IdentifierBase) (Up : Type 0
       → Rises v Up (by_word word id base v)
   word_rises word bare some =
       let P = Rises v Up in
-      pick P (bytes_eq word (codes "major")) _ _ (λ h. pick P (v.minor == 0 && (v.patch == 0 && not (is_release v))) _ _
+      cond_both (bytes_eq word (codes "major")) _ _ P (λ h. cond_both (v.minor == 0 && (v.patch == 0 && not (is_release v))) _ _ P
       (λ t. released (not-true (is_release v)
       (and_parts (v.patch == 0) (not (is_release v)) (and_parts (v.minor == 0) (v.patch == 0 && not (is_release v)) t).1).1))
       (λ t. major.0)) (λ h.
-      pick P (bytes_eq word (codes "minor")) _ _ (λ h. pick P (v.patch == 0 && not (is_release v)) _ _
+      cond_both (bytes_eq word (codes "minor")) _ _ P (λ h. cond_both (v.patch == 0 && not (is_release v)) _ _ P
       (λ t. released (not-true (is_release v) (and_parts (v.patch == 0) (not (is_release v)) t).1)) (λ t. minor.0)) (λ h.
-      pick P (bytes_eq word (codes "patch")) _ _ (λ h. pick P (is_release v) _ _ (λ t. patch.0) released) (λ h.
-      pick P (bytes_eq word (codes "premajor")) _ _ (λ h. major.1) (λ h.
-      pick P (bytes_eq word (codes "preminor")) _ _ (λ h. minor.1) (λ h.
-      pick P (bytes_eq word (codes "prepatch")) _ _ (λ h. patch.1) (λ h.
-      pick P (bytes_eq word (codes "prerelease")) _ _ (λ h. pick P (is_release v) _ _ (λ t. patch.1) (λ t. steps bare (λ up. t)))
+      cond_both (bytes_eq word (codes "patch")) _ _ P (λ h. cond_both (is_release v) _ _ P (λ t. patch.0) released) (λ h.
+      cond_both (bytes_eq word (codes "premajor")) _ _ P (λ h. major.1) (λ h.
+      cond_both (bytes_eq word (codes "preminor")) _ _ P (λ h. minor.1) (λ h.
+      cond_both (bytes_eq word (codes "prepatch")) _ _ P (λ h. patch.1) (λ h.
+      cond_both (bytes_eq word (codes "prerelease")) _ _ P (λ h. cond_both (is_release v) _ _ P (λ t. patch.1) (λ t. steps bare (λ up. t)))
       (λ h.
-      pick P (bytes_eq word (codes "pre")) _ _ (λ h. steps bare (λ up. some up ((bytes_eq-Decides word (codes "pre")).0 h))) (λ h.
-      pick P (bytes_eq word (codes "release")) _ _ (λ h. pick P (is_release v) _ _ (λ t. tt) released) (λ h. tt)))))))))
+      cond_both (bytes_eq word (codes "pre")) _ _ P (λ h. steps bare (λ up. some up ((bytes_eq-Decides word (codes "pre")).0 h))) (λ h.
+      cond_both (bytes_eq word (codes "release")) _ _ P (λ h. cond_both (is_release v) _ _ P (λ t. tt) released) (λ h. tt)))))))))
 
   pub increment_rises : (word : List ℕ) (w : VersionValue) → (Up → id ≡ []) → (Up → word ≡ codes "pre" → is_release v ≡ false)
       → incremented v word id base ≡ Ok w → (w.build ≡ v.build) × (Up → IsAbove v w)

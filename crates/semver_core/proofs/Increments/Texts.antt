@@ -2,7 +2,6 @@
 use Rattle.semver_core.proofs.Common.{AlphaNumeric, arith, nat_tests, Id, List, [], ap, bytes_eq, drop, false, length, ◌==◌, list_text}
 use Rattle.semver_core.proofs.Common.{marked_list, refl, sym, take, true, ℕ, ◌&&◌, ◌++◌, ◌∙◌, ◌∷◌, ◌≡◌}
 use Rattle.semver_core.proofs.Printing.Returns.{marked_first}
-use Rattle.std.proofs.Math.Bool.{and_assoc}
 
 -- ---- what begins with a front is compared behind it
 

@@ -16,15 +16,11 @@ run_prints run h p = elim (cases_Bool (is_u64_text run)) [
   | inl fits ↦
       let both = and_parts (list_all is_ascii_digit run) _ fits in
       let some : 0 < length run = grind (arith, nat_tests, h) in
-      let one : get_or run 0 0 ≡ 48 → length run ≡ 1 = one_zero run some p in
+      let one : get_or run 0 0 ≡ 48 → length run ≡ 1 = λ zero. grind (arith, nat_tests) in
       let small : digits_value 10 run < 2 ^ 64 = grind (arith, nat_tests, both.1) in
       rw fits (decimal-digits_value numerals run both.0 some one small)
   | inr text ↦ rw text refl
 ]
-  where
-    one_zero : (run : List ℕ) → 0 < length run → is_padded run ≡ false → get_or run 0 0 ≡ 48 → length run ≡ 1
-    one_zero [] some p e = absurd (omega arith)
-    one_zero (c ∷ rest) some p e = grind (arith, nat_tests)
 
 runs_print : (runs : List (List ℕ)) → list_all is_identifier runs ≡ true → list_any is_padded runs ≡ false
     → map id_text (map identifier_of runs) ≡ runs

@@ -1,12 +1,12 @@
 -- Serves proofs: a printed version reads as itself.
-use Rattle.semver_core.proofs.Common.{id_text, begins, is_identifier_char, AlphaNumeric, Id, Numeric, goes_on, identifier_of}
+use Rattle.semver_core.proofs.Common.{id_text, begins, is_identifier_char, Id, Numeric, goes_on, identifier_of}
 use Rattle.semver_core.proofs.Common.{is_identifier, pieces, IsNumber, Reads, begins_pre_release, no_mark, VersionValue}
 use Rattle.semver_core.proofs.Common.{List, [], ap, append-nil, arith, eqb, false, length, refl, subst, sym, true, ℕ}
-use Rattle.semver_core.proofs.Common.{◌++◌, ◌<◌, ◌∙◌, ◌∷◌, ◌≡◌, ◌≤◌, nat_tests, and_parts, lt-ltb, is_ascii_digit, first_so}
+use Rattle.semver_core.proofs.Common.{◌++◌, ◌<◌, ◌∙◌, ◌∷◌, ◌≡◌, ◌≤◌, nat_tests, lt-ltb, is_ascii_digit}
 use Rattle.semver_core.proofs.Common.{All, list_all, ◌==◌, digits_value, is_normal, marked_list, version_text}
-use Rattle.semver_core.proofs.Common.{is_u64_text, IsBuild, IsPreRelease, dashed, no_build, no_pre_release, plus, map, not}
-use Rattle.semver_core.proofs.Common.{suc, zero, ◌^◌, not-true, slice_split_at, slice_split_none, decimal, join_with_byte}
-use Rattle.semver_core.proofs.Common.{ltb-true, Err, Ok, Result, Parses}
+use Rattle.semver_core.proofs.Common.{IsBuild, IsPreRelease, dashed, no_build, no_pre_release, plus, map}
+use Rattle.semver_core.proofs.Common.{suc, zero, ◌^◌, slice_split_at, slice_split_none, decimal, join_with_byte}
+use Rattle.semver_core.proofs.Common.{Err, Ok, Result, Parses}
 use Rattle.semver_core.proofs.Common.{IfOk, append_assoc, ◌*◌, ◌+◌, codes, digits}
 use Rattle.semver_core.specs.{Internal.Readable.{IsReadable, readable}, Printing.RoundTrip.is_readable}
 use Rattle.{semver_core.specs.Text.Identifiers.IsIdentifiers, std.proofs.lemmas.Fmt.{decimal_is_IsNumeral, digits_decimal}}
@@ -14,9 +14,6 @@ use Rattle.{std.proofs.lemmas.Fmt.digits_value-decimal, std.specs.List.slice_ran
 use Rattle.semver_core.proofs.Text.Runs.{all_more, of_digits, numerals}
 
 -- ---- one identifier
-
-digits_chars : (ds : List ℕ) → list_all is_ascii_digit ds ≡ true → list_all is_identifier_char ds ≡ true
-digits_chars ds h = all_more is_ascii_digit is_identifier_char ds (λ c d. grind (arith, nat_tests)) h
 
 pub decimal_digits : (n : ℕ) → n < 2 ^ 64 → list_all is_ascii_digit (decimal n) ≡ true
 decimal_digits n small = digits_decimal numerals n small
@@ -28,7 +25,9 @@ pub decimal_some : (n : ℕ) → n < 2 ^ 64 → 0 < length (decimal n)
 decimal_some n small = (decimal_is_IsNumeral n small).0.0
 
 decimal_run : (n : ℕ) → n < 2 ^ 64 → is_identifier (decimal n) ≡ true
-decimal_run n small = rw (lt-ltb 0 (length (decimal n)) (decimal_some n small), digits_chars (decimal n) (decimal_digits n small)) refl
+decimal_run n small =
+    let chars = all_more is_ascii_digit is_identifier_char (decimal n) (λ c d. grind (arith, nat_tests)) (decimal_digits n small) in
+    rw (lt-ltb 0 (length (decimal n)) (decimal_some n small), chars) refl
 
 decimal_identifier : (n : ℕ) → n < 2 ^ 64 → identifier_of (decimal n) ≡ Numeric n
 decimal_identifier n small =

@@ -1,18 +1,13 @@
 -- A pre-release and a build at the front of a text: what is read is written, and what is written is read.
+use Rattle.semver_core.proofs.Common.{list_len, Id, goes_on, listed, IsBuild, IsPreRelease, bare}
+use Rattle.semver_core.proofs.Common.{begins_pre_release, dashed, no_build, no_pre_release, plus, [], List, ap}
+use Rattle.semver_core.proofs.Common.{append-nil, append_assoc, arith, drop, false, inl, inr, length, refl, sym}
+use Rattle.semver_core.proofs.Common.{take, true, ℕ, ◌++◌, ◌∷◌, ◌≡◌, ◌≤◌, nat_tests, cases_Bool, take-append-drop}
 use Rattle.semver_core.proofs.Reading.Bytes.{Quiet, Stop, quiet-before}
 use Rattle.semver_core.proofs.Reading.IdentifierLists.{front-identifiers, written-begins, written-exact, written-le, written-spelled}
 use Rattle.semver_core.proofs.Text.Pieces.{list_ended}
 use Rattle.semver_core.specs.Internal.Fronts.{begins_byte, begins_identifier, build_front, pre_release_front}
-use Rattle.semver_core.specs.Internal.Reading.{list_len}
-use Rattle.semver_core.specs.Text.Characters.{begins}
-use Rattle.semver_core.specs.Text.Identifiers.{Id, IsIdentifiers, goes_on, listed}
-use Rattle.semver_core.specs.Text.VersionText.{IsBuild, IsPreRelease, bare, begins_pre_release, dashed, no_build, no_pre_release, plus}
-use Rattle.std.proofs.Common.{[], List, ap, append-nil, append_assoc, arith, drop, false, inl, inr, length, length-append, refl, sym, take, true, ℕ}
-use Rattle.std.proofs.Common.{◌++◌, ◌∷◌, ◌≡◌, ◌≤◌}
-use Rattle.std.proofs.lemmas.Bool.Decides.{nat_tests}
-use Rattle.std.proofs.lemmas.Bool.{cases_Bool}
-use Rattle.std.proofs.lemmas.List.{take-append-drop}
-use Rattle.std.specs.Char.{is_ascii_digit}
+use Rattle.std.proofs.Common.{length-append}
 
 -- ---- what is read is written
 

@@ -65,10 +65,7 @@ pub ruleset places = (begins_before_end, take_rest)
 
 pub number_found : (limit : ℕ) (text : List ℕ) (at : ℕ) (r : Option (ℕ × ℕ)) → r ≡ number_at limit text at
     → IfSome r (λ found. IsPieceAt (λ digits rest. IsWholeNumber limit digits rest found.0) text at found.1)
-number_found limit text at None e = tt
-number_found limit text at (Some found) e =
-    let s = number_sound limit text at found.0 found.1 (sym e) in
-    record { piece = s.0; divided = s.1; is = s.2 }
+number_found limit text at r e = grind (arith, number_sound)
 
 pub number_none : (limit : ℕ) (text : List ℕ) (at : ℕ) (r : Option (ℕ × ℕ)) → r ≡ number_at limit text at
     → IfNone r ((n : ℕ) → NoPieceAt (λ digits rest. IsWholeNumber limit digits rest n) text at)

@@ -1,5 +1,5 @@
 -- The version that a text begins with is that of the text up to the place behind it.
-use Rattle.semver_core.proofs.Common.{qualified, triple_at, begins, Id, IsLongestIdentifiers, goes_on, pieces, IsNumber}
+use Rattle.semver_core.proofs.Common.{qualified, triple_at, begins, Id, IsLongestIdentifiers, pieces, IsNumber}
 use Rattle.semver_core.proofs.Common.{IsWholeNumber, begins_pre_release, no_mark, VersionValue, List, None, Some, [], ap}
 use Rattle.semver_core.proofs.Common.{append-nil, append_assoc, arith, drop, false, length, refl, subst, sym, take, true, ℕ}
 use Rattle.semver_core.proofs.Common.{◌++◌, ◌∙◌, ◌∷◌, ◌≡◌, ◌≤◌, nat_tests, take-append-drop, is_ascii_digit, list_all}
@@ -13,9 +13,6 @@ use Rattle.semver_core.proofs.Text.{Pieces.runs_tail, Runs.{all_more, begins_les
 use Rattle.semver_core.proofs.Text.Texts.{rest_of, bind_some, none_build, loose_none, loose_some, none_pre}
 
 -- ---- The fast reader's answer is the common text's version.
-
-at_end_some : {A : Type 0} (rest : List ℕ) (x y : A) → at_end rest x ≡ Some y → (rest ≡ []) × (x ≡ y)
-at_end_some rest x y e = grind arith
 
 pub small_is : (text : List ℕ) → IsMark (take (small_len text) text) × (take (small_len text) text ≡ 86 ∷ [] → ⊥)
 small_is text = grind (arith, nat_tests, no_mark, small_mark)
@@ -36,15 +33,12 @@ front_divided limit text t e =
 pub common_sound : (limit : ℕ) (text : List ℕ) (v : VersionValue) → common_of limit text ≡ Some v → IsCommon limit text v
 common_sound limit text v e =
     let found = bind_some (triple_at limit text (small_len text)) _ v e in
-    let ended = at_end_some (rest_of text found.0) (qualified text found.0) v found.2 in
+    let ended : (rest_of text found.0 ≡ []) × (qualified text found.0 ≡ v) = grind arith in
     let d = front_divided limit text found.0 found.1 in
     rw (← ended.1) (d.0, d.1, d.2, d.3 ∙ ended.0)
 
-no_small : (D : List ℕ) → begins is_ascii_digit D ≡ true → small_len D ≡ 0
-no_small D h = grind (arith, nat_tests)
-
 pub past_small : (text mark D : List ℕ) → IsMark mark → (mark ≡ 86 ∷ [] → ⊥) → text ≡ mark ++ D → begins is_ascii_digit D ≡ true → drop (small_len text) text ≡ D
-past_small text mark D is s e h = grind (arith, no_small)
+past_small text mark D is s e h = grind (arith, nat_tests)
 
 -- the version that stands at the front, behind `v` or nothing, is found there
 front_at : (limit : ℕ) (text : List ℕ) (v : VersionValue) (r : Reads limit text v) → (r.mark ≡ 86 ∷ [] → ⊥) → r.blank ≡ []
@@ -84,8 +78,7 @@ whole_of text major minor patch l =
 
 pub lists_found : (text : List ℕ) (major minor patch at end : ℕ) (pre build : List Id) → (pre, build, end) ≡ lists_at text at → length text ≤ end
     → whole_at text (major, minor, patch, at) ≡ Some (record { major = major; minor = minor; patch = patch; pre_release = pre; build = build })
-lists_found text major minor patch at end pre build e le =
-    ap (whole_of text major minor patch) (sym e) ∙ rw (drop_all end text le) refl
+lists_found text major minor patch at end pre build e le = grind (arith, drop_all)
 
 pub lists_left : (text : List ℕ) (major minor patch at end : ℕ) (pre build : List Id) → (pre, build, end) ≡ lists_at text at → end < length text
     → whole_at text (major, minor, patch, at) ≡ None
@@ -140,14 +133,11 @@ keeps_version text one small large v w le h k = one large w v k (keeps_reading t
 
 -- ---- a text without what follows it
 
-goes_less : (a r : List ℕ) → goes_on (a ++ r) ≡ false → goes_on a ≡ false
-goes_less a r h = grind arith
-
 pre_less : (a r : List ℕ) → begins_pre_release (a ++ r) ≡ false → begins_pre_release a ≡ false
 pre_less a r h = grind (arith, nat_tests)
 
 longest_less : (text a r : List ℕ) (ids : List Id) → IsLongestIdentifiers text (a ++ r) ids → IsLongestIdentifiers text a ids
-longest_less text a r ids l = record { identifiers = l.identifiers; ended = goes_less a r l.ended }
+longest_less text a r ids l = record { identifiers = l.identifiers; ended = (let e = l.ended in grind arith) }
 
 is_pre_less : (text a r : List ℕ) (ids : List Id) → IsPreRelease text (a ++ r) ids → IsPreRelease text a ids
 is_pre_less text a r ids (dashed s rest list long) = dashed s a ids (longest_less s a r ids long)

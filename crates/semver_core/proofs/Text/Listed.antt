@@ -96,12 +96,9 @@ value_zeros : (text : List ℕ) → list_all is_ascii_digit text ≡ true → di
 value_zeros [] d e = refl
 value_zeros (c ∷ rest) d e = grind (arith, nat_tests, digits_grow (digit_value c) rest, value_zeros rest)
 
-id_zeros : (text : List ℕ) → identifier_of text ≡ Numeric 0 → list_all is_zero text ≡ true
-id_zeros text e = grind (arith, value_zeros)
-
 one_piece : (ps : List (List ℕ)) → map identifier_of ps ≡ Numeric 0 ∷ [] → list_all is_zero (join_with_byte 46 ps) ≡ true
 one_piece [] e = cc
-one_piece (p ∷ []) e = id_zeros p (grind (arith, e))
+one_piece (p ∷ []) e = grind (arith, value_zeros, e)
 one_piece (p ∷ q ∷ ps) e = cc
 
 pub listed_zeros : (text : List ℕ) → listed text ≡ Numeric 0 ∷ [] → list_all is_zero text ≡ true

@@ -1,5 +1,5 @@
 -- Runs of identifier characters, and lists of them.
-use Rattle.semver_core.proofs.Common.{Bool, and_parts, list_at, list_of, begins, is_identifier_char, Id, Numeric, goes_on}
+use Rattle.semver_core.proofs.Common.{Bool, list_at, list_of, begins, is_identifier_char, Id, Numeric, goes_on}
 use Rattle.semver_core.proofs.Common.{identifier_of, List, Some, [], add-one, add_comm, ap, append_assoc, arith, drop, eqb}
 use Rattle.semver_core.proofs.Common.{false, get_or, length, ltb, refl, rules, sym, take, true, ℕ, ◌++◌, ◌+◌, ◌-◌, ◌<◌, ◌∙◌}
 use Rattle.semver_core.proofs.Common.{◌∷◌, ◌≡◌, ◌≤◌, nat_tests, drop-drop, length-drop, is_ascii_digit, All, list_all}
@@ -11,8 +11,7 @@ use Rattle.std.proofs.lemmas.Str.Parse.{IsNumeralModel, numerals_by_value}
 -- what holds of each character, and what follows from that
 pub all_more : (p q : ℕ → Bool) (text : List ℕ) → ((c : ℕ) → p c ≡ true → q c ≡ true) → list_all p text ≡ true → list_all q text ≡ true
 all_more p q [] h each = refl
-all_more p q (c ∷ rest) h each =
-    let both = and_parts (p c) (list_all p rest) each in rw (h c both.0) (all_more p q rest h both.1)
+all_more p q (c ∷ rest) h each = grind (arith, h c, all_more p q rest h)
 
 pub numerals : IsNumeralModel (λ ds. list_all is_ascii_digit ds ≡ true) (digits_value 10)
 numerals = numerals_by_value _ (search rules)
@@ -44,8 +43,7 @@ prefix_ends p [] = refl
 prefix_ends p (c ∷ rest) = grind (arith, drop_one, prefix_ends p rest)
 
 pub prefix_whole : (p : ℕ → Bool) (run more : List ℕ) → list_all p run ≡ true → begins p more ≡ false → prefix_len p (run ++ more) ≡ length run
-prefix_whole p [] [] h k = refl
-prefix_whole p [] (c ∷ more) h k = grind arith
+prefix_whole p [] more h k = grind arith
 prefix_whole p (c ∷ run) more h k = grind (arith, prefix_whole p run more)
 
 -- the list goes over the run at its front, and then as the rest does
@@ -56,8 +54,7 @@ list_len_run (c ∷ rest) = grind (arith, drop_one, list_len_run rest)
 
 pub list_len_stop : (t : List ℕ) → goes_on t ≡ false → list_len t ≡ 0
 unfolding list_len
-list_len_stop [] h = refl
-list_len_stop (c ∷ rest) h = rw h refl
+list_len_stop t h = grind arith
 
 -- what goes on after a run goes on with a dot
 dot_after : (t : List ℕ) → begins is_identifier_char t ≡ false → goes_on t ≡ true → (t ≡ 46 ∷ drop 1 t) × (begins is_identifier_char (drop 1 t) ≡ true)

@@ -1,5 +1,5 @@
 -- Serves proofs. Whitespace is told by its code point: the bytes of a character are whitespace where the character is.
-use Rattle.semver_core.proofs.Common.{is_whitespace, List, [], ap, arith, false, inl, inr, refl, true, ℕ, ◌*◌, ◌++◌, ◌+◌, ◌<◌}
+use Rattle.semver_core.proofs.Common.{is_whitespace, List, ap, arith, false, inl, inr, refl, true, ℕ, ◌*◌, ◌++◌, ◌+◌, ◌<◌}
 use Rattle.semver_core.proofs.Common.{◌∙◌, ◌∷◌, ◌≡◌, ◌≤◌, nat_tests, cases_lt, lt-ltb, len_utf8, encode_utf8, space_len}
 use Rattle.semver_core.proofs.Common.{if◌then◌else◌, ◌%◌, ◌/◌, le-ltb, encode_ascii}
 use Rattle.semver_core.specs.Internal.Spaces.{space_len_two, space_len_three, goes_on_with}
@@ -14,8 +14,7 @@ unfolding space_len
 high a rest h = rw (le-ltb a 128 h) refl
 
 not_three : (a b : ℕ) (rest : List ℕ) → is_in_range 0xE0 0xEF a ≡ false → space_len_three a b rest ≡ 0
-not_three a b [] h = refl
-not_three a b (c ∷ rest) h = rw h refl
+not_three a b rest h = grind arith
 
 two_bytes : (a b c : ℕ) (rest : List ℕ) → 192 ≤ a → a < 224 → goes_on_with b ≡ true → (a % 32) * 64 + b % 64 ≡ c
     → space_len (a ∷ b ∷ rest) ≡ (if is_whitespace c then 2 else 0)
@@ -33,8 +32,7 @@ four_bytes a b rest l = grind (arith, nat_tests, high, not_three)
 
 -- a byte inside a character begins none
 pub space_len-inside : (b : ℕ) (rest : List ℕ) → 128 ≤ b → b < 192 → space_len (b ∷ rest) ≡ 0
-space_len-inside b [] l h = high b [] l
-space_len-inside b (c ∷ rest) l h = grind (arith, nat_tests, high, not_three)
+space_len-inside b rest l h = grind (arith, nat_tests, high, not_three)
 
 -- the characters of one byte, of two, of three and of four
 pub front_is_first_character : (c : ℕ) (rest : List ℕ) → space_len (encode_utf8 c ++ rest) ≡ (if is_whitespace c then len_utf8 c else 0)

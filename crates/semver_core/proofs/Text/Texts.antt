@@ -4,7 +4,7 @@ use Rattle.semver_core.proofs.Common.{begins, is_identifier_char, is_whitespace,
 use Rattle.semver_core.proofs.Common.{IsWholeNumber, Reads, begins_pre_release, no_mark, VersionValue, List, None, Option, Some}
 use Rattle.semver_core.proofs.Common.{[], ap, append_assoc, arith, drop, eqb, false, inl, inr, length, refl, subst, sym, take}
 use Rattle.semver_core.proofs.Common.{true, ℕ, ◌++◌, ◌+◌, ◌<◌, ◌||◌, ◌∙◌, ◌∷◌, ◌≡◌, nat_tests, cases_Bool, take-append-drop}
-use Rattle.semver_core.proofs.Common.{is_ascii_digit, encode_utf8, first_so, second_so, list_all, IsCharBoundary, IsUtf8}
+use Rattle.semver_core.proofs.Common.{is_ascii_digit, encode_utf8, second_so, list_all, IsCharBoundary, IsUtf8}
 use Rattle.semver_core.proofs.Common.{encode_utf8_all, ◌==◌, HasOneReading, build_at, list_len, mark_len, number_at, or_nothing}
 use Rattle.semver_core.proofs.Common.{pre_release_at, IsPieceAt, IsBuild, IsMark, IsPreRelease, bare, begins_build}
 use Rattle.semver_core.proofs.Common.{capital_mark, dashed, no_build, no_pre_release, plus, small_mark, add-zero, slice_range}
