@@ -115,7 +115,7 @@ module _ {V : Type 0} {R : V → V → Ordering} (o : IsTotalOrder R) where
   turned_upper b a h = grind arith
 
   pub is_some-interval : (s : Span V) → is_some (interval R s) ≡ is_interval R s
-  is_some-interval s = cond_both (is_interval R s) (Some s) None (λ m. is_some m ≡ is_interval R s) sym sym
+  is_some-interval s = grind arith
 
   -- two intervals have something in common where each reaches above the lower cut of the other
   pub meets_both : (s t : Span V) → is_interval R s ≡ true → is_interval R t ≡ true
@@ -161,9 +161,7 @@ module _ {V : Type 0} {R : V → V → Ordering} (o : IsTotalOrder R) where
 
   -- a span holds nothing where it is no interval
   pub option_holds-interval : (s : Span V) (v : V) → option_holds R (interval R s) v ≡ holds R s v
-  option_holds-interval s v =
-      cond_both (is_interval R s) (Some s) None (λ m. option_holds R m v ≡ holds R s v) (λ h. refl)
-      (λ h. grind (arith, is_past-down (lower_cut s.lower) (upper_cut s.upper) v))
+  option_holds-interval s v = grind (arith, is_past-down (lower_cut s.lower) (upper_cut s.upper) v)
 
   -- what two spans have in common is the points of both, with the bounds of either
   pub option_holds-meet : (s t : Span V) (v : V) → option_holds R (meet R s t) v ≡ (holds R s v && holds R t v)
@@ -181,17 +179,11 @@ module _ {V : Type 0} {R : V → V → Ordering} (o : IsTotalOrder R) where
   -- what is left below is past the lower cut of the first, and not past that of the second; and what is left above
   option_holds-left_below : (s t : Span V) (v : V) → option_holds R (left_below R s t) v ≡ (is_past R (lower_cut s.lower) v && not (is_past R (lower_cut t.lower) v))
   option_holds-left_below s t v =
-      cond_both (lt (lower_cut s.lower) (lower_cut t.lower)) (Some (record { lower = s.lower; upper = t.lower })) None
-      (λ m. option_holds R m v ≡ (is_past R (lower_cut s.lower) v && not (is_past R (lower_cut t.lower) v)))
-      (λ h. rw (turned_lower t.lower (lower_cut s.lower) h) refl)
-      (λ h. grind (arith, is_past-down (lower_cut t.lower) (lower_cut s.lower) v))
+      grind (arith, turned_lower t.lower (lower_cut s.lower), is_past-down (lower_cut t.lower) (lower_cut s.lower) v)
 
   option_holds-left_above : (s t : Span V) (v : V) → option_holds R (left_above R s t) v ≡ (is_past R (upper_cut t.upper) v && not (is_past R (upper_cut s.upper) v))
   option_holds-left_above s t v =
-      cond_both (lt (upper_cut t.upper) (upper_cut s.upper)) (Some (record { lower = t.upper; upper = s.upper })) None
-      (λ m. option_holds R m v ≡ (is_past R (upper_cut t.upper) v && not (is_past R (upper_cut s.upper) v)))
-      (λ h. rw (turned_upper t.upper (upper_cut s.upper) h) refl)
-      (λ h. grind (arith, is_past-down (upper_cut s.upper) (upper_cut t.upper) v))
+      grind (arith, turned_upper t.upper (upper_cut s.upper), is_past-down (upper_cut s.upper) (upper_cut t.upper) v)
 
   two_parts : (a b c d : Bool) → ((b || d) ≡ true → (a && c) ≡ true)
       → ((a && not c) || (d && not b)) ≡ ((a && not b) && not (c && not d))

@@ -88,16 +88,9 @@ pub not_begun : (text : List ℕ) → 0 < length text → begins is_identifier_c
 not_begun text some h = grind (arith, listed_begins)
 
 pub whole_listed : (text : List ℕ) → begins is_identifier_char text ≡ true → (list_len text == length text) ≡ is_listed text
-whole_listed text h = elim (cases_Bool (is_listed text)) [
-  | inl spelled ↦
-      let runs = sym (listed_runs text (grind arith)) ∙ spelled in
-      let all = rw (append-nil text) at (list_len-append text [] (runs_tail (pieces text) runs)) in
-      rw (all, list_len_stop [] refl, spelled) (grind (arith, nat_tests))
-  | inr other ↦ elim (cases_Bool (list_len text == length text)) [
-    | inl same ↦ cc (rw other at (whole_spelled text h (eqb-true (list_len text) (length text) same)))
-    | inr less ↦ less ∙ sym other
-  ]
-]
+whole_listed text h =
+    let runs = listed_runs text (grind arith) in
+    grind (arith, nat_tests, whole_spelled text h, append-nil, list_len-append text [], list_len_stop [] refl, runs_tail)
 
 pub ruleset whole_lists = (none_listed, not_begun, whole_listed)
 

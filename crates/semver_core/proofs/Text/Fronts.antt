@@ -6,7 +6,7 @@ use Rattle.semver_core.proofs.Common.{◌++◌, ◌∙◌, ◌∷◌, ◌≡◌,
 use Rattle.semver_core.proofs.Common.{list_all-append, small_len, lists_at, IsCommon, IsBuild, IsMark, IsPreRelease, bare}
 use Rattle.semver_core.proofs.Common.{dashed, no_build, no_pre_release, plus, small_mark, NoValue, IsAfterBlank, IsBlank}
 use Rattle.semver_core.proofs.Common.{is_identifier_char, Reads, Option, ◌<◌, drop-cons, drop_all, ◌==◌, common_of}
-use Rattle.semver_core.proofs.Common.{HasOneReading, mark_len, begins_build, release_value, IfSome, IfNone, get_or}
+use Rattle.semver_core.proofs.Common.{HasOneReading, mark_len, release_value, IfSome, IfNone, get_or}
 use Rattle.semver_core.specs.{Internal.CommonReading.{is_plain, at_end, whole_at}, Text.Common.IsCommonFront}
 use Rattle.{std.proofs.lemmas.List.append_cancel_right, semver_core.proofs.Text.Listed.plain_runs}
 use Rattle.semver_core.proofs.Text.{Pieces.runs_tail, Runs.{all_more, begins_less}, Texts.{divided_at, number_begins, read_at}}
@@ -104,17 +104,12 @@ pub release_read : (limit : ℕ) (text : List ℕ) (major minor patch at : ℕ) 
     → Reads limit text v
 release_read limit text major minor patch at v r le e = grind (arith, drop_all, none_pre, none_build)
 
--- neither a pre-release nor a build begins with such a byte
-nothing_at : (text : List ℕ) (at : ℕ) (r : List ℕ) → drop at text ≡ r → begins_pre_release r ≡ false → begins_build r ≡ false → lists_at text at ≡ ([], [], at)
-nothing_at text at r e pre meta = rw (none_pre text at r e pre, none_build text at r e meta) refl
-
 pub none_begins : (text : List ℕ) (at : ℕ) → at < length text → is_identifier_char (get_or text at 0) ≡ false → (get_or text at 0 == 43) ≡ false
     → lists_at text at ≡ ([], [], at)
-none_begins text at inside h k =
-    nothing_at text at _ (drop-cons text at 0 inside) (grind (arith, nat_tests)) (grind arith)
+none_begins text at inside h k = grind (arith, nat_tests, drop-cons, none_pre, none_build)
 
 pub none_past : (text : List ℕ) (at : ℕ) → length text ≤ at → lists_at text at ≡ ([], [], at)
-none_past text at past = nothing_at text at [] (drop_all at text past) refl refl
+none_past text at past = grind (arith, drop_all, none_pre, none_build)
 
 pub ruleset no_lists = (none_past, none_begins)
 
