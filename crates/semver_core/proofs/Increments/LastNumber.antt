@@ -82,11 +82,7 @@ pub drop_next : (list : List Id) (i : ℕ) (rest : List Id) (x : Id) → drop i 
 drop_next list i rest x e = ap (drop 1) (sym e) ∙ drop-drop 1 i list
 
 pub tracks_number : (list rest : List Id) (at n : ℕ) → drop at list ≡ Numeric n ∷ rest → Tracks list rest (Some (at, n))
-tracks_number list rest at n e =
-    let behind = drop_next list at rest (Numeric n) e in (
-      sym (take-append-drop at list) ∙ ap (λ r. take at list ++ r) (e ∙ ap (λ r. Numeric n ∷ r) behind),
-      ap has_numeric (sym behind),
-    )
+tracks_number list rest at n e = grind (arith, take-append-drop, drop_next)
 
 pub ruleset tracking = (tracks_text, tracks_number, drop_next)
 

@@ -22,26 +22,18 @@ module _ (mark rest word : List ℕ) (left others : List Id) (e : left ≡ Alpha
 
   pub other_word : (behind : List ℕ) → behind ≡ drop (length mark) rest → bytes_eq (take (length word) behind) word ≡ false
       → bytes_eq rest (marked_list mark left) ≡ false
-  other_word behind is h = rw (
-    whole,
-    compared mark rest (word ++ marked_list (46 ∷ []) others),
-    ← is,
-    compared word behind (marked_list (46 ∷ []) others),
-    h,
-  ) (grind arith)
+  other_word behind is h =
+      let first = compared mark rest (word ++ marked_list (46 ∷ []) others) in
+      let second = compared word behind (marked_list (46 ∷ []) others) in
+      grind (arith, whole)
 
   pub word_behind : (behind ahead : List ℕ) → bytes_eq (take (length mark) rest) mark ≡ true → behind ≡ drop (length mark) rest
       → bytes_eq (take (length word) behind) word ≡ true → ahead ≡ drop (length word) behind
       → bytes_eq ahead (marked_list (46 ∷ []) others) ≡ bytes_eq rest (marked_list mark left)
-  word_behind behind ahead marks is words goes = sym (rw (
-    whole,
-    compared mark rest (word ++ marked_list (46 ∷ []) others),
-    marks,
-    ← is,
-    compared word behind (marked_list (46 ∷ []) others),
-    words,
-    ← goes,
-  ) refl)
+  word_behind behind ahead marks is words goes =
+      let first = compared mark rest (word ++ marked_list (46 ∷ []) others) in
+      let second = compared word behind (marked_list (46 ∷ []) others) in
+      grind (arith, whole)
 
 -- all of a list is left, or nothing
 pub whole_left : (ids : List Id) → marked_list [] ids ≡ list_text ids

@@ -17,9 +17,7 @@ digit_value-is c h = let e = digit_value_digit c (grind (arith, nat_tests)) in o
 pub digits_over : (limit : ℕ) (v k : ℕ) (xs : List ℕ) (i : ℕ) → i < length xs → is_ascii_digit (get_or xs i 0) ≡ true → limit < v * 10 + (get_or xs i 0 - 48)
     → digits_from limit v k (drop i xs) ≡ None
 unfolding digits_from
-digits_over limit v k xs i lt d big =
-    let over : ltb limit (v * 10 + (get_or xs i 0 - 48)) ≡ true = grind (arith, nat_tests) in
-    rw (drop-cons xs i 0, d, digit_value-is (get_or xs i 0) d, over) refl
+digits_over limit v k xs i lt d big = grind (arith, nat_tests, drop-cons, digit_value-is)
 
 pub digits_stop : (limit : ℕ) (v k : ℕ) (xs : List ℕ) (i : ℕ) → i < length xs → is_ascii_digit (get_or xs i 0) ≡ false
     → digits_from limit v k (drop i xs) ≡ digits_end v k
@@ -33,9 +31,7 @@ digits_past limit v k xs i le = rw (drop_all i xs le) refl
 pub digits_one_more : (limit : ℕ) (v k : ℕ) (xs : List ℕ) (i : ℕ) → i < length xs → is_ascii_digit (get_or xs i 0) ≡ true → v * 10 + (get_or xs i 0 - 48) ≤ limit
     → digits_from limit v k (drop i xs) ≡ digits_from limit (v * 10 + (get_or xs i 0 - 48)) (k + 1) (drop (i + 1) xs)
 unfolding digits_from
-digits_one_more limit v k xs i lt d small =
-    let fits : ltb limit (v * 10 + (get_or xs i 0 - 48)) ≡ false = grind (arith, nat_tests) in
-    rw (drop-cons xs i 0, add-one i, d, digit_value-is (get_or xs i 0) d, fits) refl
+digits_one_more limit v k xs i lt d small = grind (arith, nat_tests, drop-cons, digit_value-is, add-one i)
 
 pub digit_other : (c : ℕ) → is_ascii_digit c ≡ true → (c == 10) ≡ false
 digit_other c d = grind (arith, nat_tests)
