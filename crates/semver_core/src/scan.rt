@@ -70,7 +70,7 @@ pub fn skip_whitespace(text: &str, at: usize) -> usize
 ///
 /// `trim(" \u{FEFF}1.x || 2 ")` is `"1.x || 2"`.
 #[inline]
-#[tactic(auto, using(crate::proofs::Text::Trims::trimmed_none, crate::proofs::Text::Trims::trimmed_visible))]
+#[tactic(auto, using(crate::proofs::Text::Trims::trimmed))]
 pub fn trim(text: &str) -> &str
     ensures middle { IsTrim text.now result.now }
 {

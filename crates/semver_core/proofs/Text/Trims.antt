@@ -284,6 +284,8 @@ trimmed_visible text utf8 some first last =
     let value : trim text ≡ text = ap drop_end_spaces (kept_front text more first) ∙ end in
     subst (λ (t : List ℕ). IsTrim text t) value (trim_is_middle text utf8)
 
+pub ruleset trimmed = (trimmed_none, trimmed_visible)
+
 -- what is left of a text whose end is skipped, character by character
 pub record Shortened (text rest : List ℕ) : Type 0 where
   pub utf8 : IsUtf8 rest
