@@ -1,34 +1,29 @@
 -- Shared with the layers above: tests of what a comparison answers, the order of cuts, and the points of what two spans have in
 -- common or one leaves of another.
-use Rattle.semver_core.proofs.Common.{Bool, None, Option, Some, ap, arith, false, inl, inr, refl, subst, sym, true, ℕ, ◌||◌, ◌∙◌}
-use Rattle.semver_core.proofs.Common.{◌≡◌, and_parts, cases_Bool, tied_itself, is_le, Equal, Greater, Less, clip, Span}
+use Rattle.semver_core.proofs.Common.{Bool, None, Option, Some, ap, arith, false, refl, subst, sym, true, ℕ, ◌||◌, ◌∙◌}
+use Rattle.semver_core.proofs.Common.{◌≡◌, and_parts, tied_itself, is_le, clip, Span}
 use Rattle.semver_core.proofs.Common.{greater_lower, is_interval, lesser_upper, meet, option_holds, remainders, is_some, not}
 use Rattle.semver_core.proofs.Common.{◌&&◌, upto, ordering_reverse, Ordering, cond_both}
 use Rattle.semver_core.specs.Cuts.{Cut, Start, Beside, End, cut_cmp, is_past, lower_cut, upper_cut, interval, holds, left_below}
 use Rattle.semver_core.specs.{Cuts.left_above, Internal.Sides.Near, declared.cuts.bound.Bound.Bound}
-use Rattle.{semver_core.specs.declared.cuts.bound.Bound.TheVariants.{Unbounded, Before, After}, std.proofs.Math.Bool.and_comm}
+use Rattle.{std.proofs.Math.Bool.and_comm}
 use Rattle.std.specs.Cmp.{IsTotalOrder, on_total, then_total, nat_cmp_total, bool_cmp_total, Lexicographic.options_total}
 use Rattle.std.specs.{Option.option_cmp, Ordering.{nat_cmp, is_lt, is_gt, on, then_cmp, bool_cmp}}
 
 -- what the tests of an answer say together
 pub tells : (r : Ordering) → (is_le r ≡ not (is_gt r))
     × ((is_gt (ordering_reverse r) ≡ is_lt r) × (is_lt (ordering_reverse r) ≡ is_gt r))
-tells Less = (refl, (refl, refl))
-tells Equal = (refl, (refl, refl))
-tells Greater = (refl, (refl, refl))
+tells r = (grind arith, (grind arith, grind arith))
 
 -- a test does not hold where it would make another one hold that does not
 pub not_if : (a b : Bool) → (a ≡ true → b ≡ true) → b ≡ false → a ≡ false
-not_if true b f h = sym (f refl) ∙ h
-not_if false b f h = refl
+not_if a b f h = grind arith
 
 pub none_of : {A : Type 0} (m : Option A) → is_some m ≡ false → m ≡ None
-none_of None h = refl
-none_of (Some x) h = cc
+none_of m h = grind arith
 
 pub lt_not_gt : (r : Ordering) → is_lt r ≡ true → is_gt r ≡ false
-lt_not_gt Less h = refl
-lt_not_gt r h = cc
+lt_not_gt r h = grind arith
 
 module _ {V : Type 0} {R : V → V → Ordering} (o : IsTotalOrder R) where
   -- a cut by its place among the three kinds, and then by its point and its side
@@ -45,10 +40,7 @@ module _ {V : Type 0} {R : V → V → Ordering} (o : IsTotalOrder R) where
   beside_cmp = then_cmp (on (λ (p : V × Bool). p.0) R) (on (λ (p : V × Bool). p.1) bool_cmp)
 
   keyed : (c d : Cut V) → then_cmp (on rank nat_cmp) (on beside (option_cmp beside_cmp)) c d ≡ cut_cmp R c d
-  keyed Start Start = refl
-  keyed (Beside v s) (Beside w t) = refl
-  keyed End End = refl
-  keyed c d = refl
+  keyed c d = grind arith
 
   pub cut_total : IsTotalOrder (cut_cmp R)
   cut_total = subst IsTotalOrder (λ i c d. keyed c d i) (then_total (on_total rank nat_cmp_total) (on_total beside (options_total
@@ -89,24 +81,15 @@ module _ {V : Type 0} {R : V → V → Ordering} (o : IsTotalOrder R) where
   -- the bound that is picked against any cut
   pub greater_below : (b c : Bound V) (x : Cut V)
       → lt (lower_cut (greater_lower R b c)) x ≡ (lt (lower_cut b) x && lt (lower_cut c) x)
-  greater_below b c x = elim (cases_Bool (is_gt (cut_cmp R (lower_cut b) (lower_cut c)))) [
-    | inl h ↦ rw h (grind (arith, gt_lt (lower_cut b) (lower_cut c), lt_trans (lower_cut c) (lower_cut b) x))
-    | inr h ↦ rw h (grind (arith, gt_lt (lower_cut b) (lower_cut c), upto_below (lower_cut b) (lower_cut c) x))
-  ]
+  greater_below b c x = grind (arith, gt_lt, lt_trans, upto_below)
 
   pub below_greater : (b c : Bound V) (x : Cut V)
       → lt x (lower_cut (greater_lower R b c)) ≡ (lt x (lower_cut b) || lt x (lower_cut c))
-  below_greater b c x = elim (cases_Bool (is_gt (cut_cmp R (lower_cut b) (lower_cut c)))) [
-    | inl h ↦ rw h (grind (arith, gt_lt (lower_cut b) (lower_cut c), lt_trans x (lower_cut c) (lower_cut b)))
-    | inr h ↦ rw h (grind (arith, gt_lt (lower_cut b) (lower_cut c), below_upto x (lower_cut b) (lower_cut c)))
-  ]
+  below_greater b c x = grind (arith, gt_lt, lt_trans, below_upto)
 
   pub below_lesser : (b c : Bound V) (x : Cut V)
       → lt x (upper_cut (lesser_upper R b c)) ≡ (lt x (upper_cut b) && lt x (upper_cut c))
-  below_lesser b c x = elim (cases_Bool (is_gt (cut_cmp R (upper_cut b) (upper_cut c)))) [
-    | inl h ↦ rw h (grind (arith, gt_lt (upper_cut b) (upper_cut c), lt_trans x (upper_cut c) (upper_cut b)))
-    | inr h ↦ rw h (grind (arith, gt_lt (upper_cut b) (upper_cut c), below_upto x (upper_cut b) (upper_cut c)))
-  ]
+  below_lesser b c x = grind (arith, gt_lt, lt_trans, below_upto)
 
   -- the greater of two lower bounds and the lesser of two upper ones are in order where all four are
   pub between : (b c d e : Bound V) → lt (lower_cut (greater_lower R b c)) (upper_cut (lesser_upper R d e))
@@ -126,19 +109,13 @@ module _ {V : Type 0} {R : V → V → Ordering} (o : IsTotalOrder R) where
 
   -- a bound turned round stands for the same cut, if there is something on the other side of it
   pub turned_lower : (b : Bound V) (a : Cut V) → lt a (lower_cut b) ≡ true → upper_cut b ≡ lower_cut b
-  turned_lower Unbounded Start h = cc
-  turned_lower Unbounded a h = cc
-  turned_lower (Before v) a h = refl
-  turned_lower (After v) a h = refl
+  turned_lower b a h = grind arith
 
   pub turned_upper : (b : Bound V) (a : Cut V) → lt (upper_cut b) a ≡ true → lower_cut b ≡ upper_cut b
-  turned_upper Unbounded Start h = cc
-  turned_upper Unbounded a h = cc
-  turned_upper (Before v) a h = refl
-  turned_upper (After v) a h = refl
+  turned_upper b a h = grind arith
 
   pub is_some-interval : (s : Span V) → is_some (interval R s) ≡ is_interval R s
-  is_some-interval s = cond_both (is_interval R s) (Some s) None (λ m. is_some m ≡ is_interval R s) sym sym
+  is_some-interval s = grind arith
 
   -- two intervals have something in common where each reaches above the lower cut of the other
   pub meets_both : (s t : Span V) → is_interval R s ≡ true → is_interval R t ≡ true
@@ -184,9 +161,7 @@ module _ {V : Type 0} {R : V → V → Ordering} (o : IsTotalOrder R) where
 
   -- a span holds nothing where it is no interval
   pub option_holds-interval : (s : Span V) (v : V) → option_holds R (interval R s) v ≡ holds R s v
-  option_holds-interval s v =
-      cond_both (is_interval R s) (Some s) None (λ m. option_holds R m v ≡ holds R s v) (λ h. refl)
-      (λ h. grind (arith, is_past-down (lower_cut s.lower) (upper_cut s.upper) v))
+  option_holds-interval s v = grind (arith, is_past-down (lower_cut s.lower) (upper_cut s.upper) v)
 
   -- what two spans have in common is the points of both, with the bounds of either
   pub option_holds-meet : (s t : Span V) (v : V) → option_holds R (meet R s t) v ≡ (holds R s v && holds R t v)
@@ -204,17 +179,11 @@ module _ {V : Type 0} {R : V → V → Ordering} (o : IsTotalOrder R) where
   -- what is left below is past the lower cut of the first, and not past that of the second; and what is left above
   option_holds-left_below : (s t : Span V) (v : V) → option_holds R (left_below R s t) v ≡ (is_past R (lower_cut s.lower) v && not (is_past R (lower_cut t.lower) v))
   option_holds-left_below s t v =
-      cond_both (lt (lower_cut s.lower) (lower_cut t.lower)) (Some (record { lower = s.lower; upper = t.lower })) None
-      (λ m. option_holds R m v ≡ (is_past R (lower_cut s.lower) v && not (is_past R (lower_cut t.lower) v)))
-      (λ h. rw (turned_lower t.lower (lower_cut s.lower) h) refl)
-      (λ h. grind (arith, is_past-down (lower_cut t.lower) (lower_cut s.lower) v))
+      grind (arith, turned_lower t.lower (lower_cut s.lower), is_past-down (lower_cut t.lower) (lower_cut s.lower) v)
 
   option_holds-left_above : (s t : Span V) (v : V) → option_holds R (left_above R s t) v ≡ (is_past R (upper_cut t.upper) v && not (is_past R (upper_cut s.upper) v))
   option_holds-left_above s t v =
-      cond_both (lt (upper_cut t.upper) (upper_cut s.upper)) (Some (record { lower = t.upper; upper = s.upper })) None
-      (λ m. option_holds R m v ≡ (is_past R (upper_cut t.upper) v && not (is_past R (upper_cut s.upper) v)))
-      (λ h. rw (turned_upper t.upper (upper_cut s.upper) h) refl)
-      (λ h. grind (arith, is_past-down (upper_cut s.upper) (upper_cut t.upper) v))
+      grind (arith, turned_upper t.upper (upper_cut s.upper), is_past-down (upper_cut s.upper) (upper_cut t.upper) v)
 
   two_parts : (a b c d : Bool) → ((b || d) ≡ true → (a && c) ≡ true)
       → ((a && not c) || (d && not b)) ≡ ((a && not b) && not (c && not d))

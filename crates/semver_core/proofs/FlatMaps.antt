@@ -1,7 +1,7 @@
 -- Lists that are joined from a list for each element of another, and tests of their elements.
-use Rattle.std.proofs.Common.{append_assoc, ◌≡◌, refl, sym, ◌∙◌, ap, ℕ, ◌+◌, ◌<◌, Bool, true, false, ◌&&◌, ◌||◌, List, [], ◌∷◌, ◌++◌}
+use Rattle.std.proofs.Common.{append_assoc, ◌≡◌, refl, sym, ◌∙◌, ap, ℕ, ◌+◌, ◌<◌, Bool, true, ◌&&◌, ◌||◌, List, [], ◌∷◌, ◌++◌}
 use Rattle.std.proofs.{lemmas.Bool.Decides.{nat_tests}, lemmas.Grind.{common_steps, flat_map-append}}
-use Rattle.std.proofs.Common.{length, get_or, take, not, arith, Option, is_some, option_to_list, map, Result, Ok, Err, OnErr}
+use Rattle.std.proofs.Common.{length, get_or, take, not, arith, Option, is_some, option_to_list, map, Result, OnErr}
 use Rattle.std.proofs.{lemmas.Bool.{and_parts, or_cases}, lemmas.List.{append-nil, take_more}}
 use Rattle.std.proofs.lemmas.List.Folds.{Any-from_list_any, length-flat_map-take, list_all-append, list_any-append, list_any_at}
 use Rattle.semver_core.specs.Lists.{is_empty}
@@ -33,8 +33,7 @@ flat_same f g h xs = λ i. flat_map (λ x. h x i) xs
 
 -- what holds in any case holds of a failure
 pub on_err : {T E P : Type 0} (r : Result T E) → P → OnErr r P
-on_err (Ok x) p = tt
-on_err (Err e) p = p
+on_err r p = grind arith
 
 -- the joined list has an element where one of the lists does
 pub flat_some : {A B : Type 0} (f : A → List B) (xs : List A) (i : ℕ) (x : A) → i < length xs → x ≡ get_or xs i x
@@ -80,9 +79,8 @@ any_pairs {B = B} p q [] ys = refl
 any_pairs {B = B} p q (x ∷ xs) ys = rw (any_pairs p q xs ys, row (p x) ys) (grind arith)
   where
     row : (a : Bool) (ys : List B) → list_any (λ y. a && q y) ys ≡ (a && list_any q ys)
-    row true ys = refl
-    row false [] = refl
-    row false (y ∷ ys) = row false ys
+    row a [] = grind arith
+    row a (y ∷ ys) = grind (arith, row a ys)
 
 pub any_either : {A B : Type 0} (r : A → B → Bool) (p : A → Bool) (q : B → Bool) → ((x : A) (y : B) → r x y ≡ true → (p x || q y) ≡ true)
     → (xs : List A) (ys : List B) → list_any (λ x. list_any (r x) ys) xs ≡ true → (list_any p xs || list_any q ys) ≡ true

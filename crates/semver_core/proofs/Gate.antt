@@ -164,16 +164,14 @@ lets_in_one s t v h = either (is_release v) (names s.lower v) (names s.upper v) 
     either r a b c d l u f g h = grind arith
 
 -- a version lies past the cut of a bound by its order to the version that the bound names
+turned : (r s : Ordering) → r ≡ ordering_reverse s
+    → (is_le (ordering_then r Equal) ≡ is_ge s) × (is_le (ordering_then r Greater) ≡ is_gt s)
+turned r s e = (grind arith, grind arith)
+
 pub past-before : (v w : VersionValue) → is_past precedence (Beside v false) w ≡ is_ge (precedence w v)
-past-before v w = turned (precedence v w) (precedence w v) (precedence_total.antisymm v w)
-  where
-    turned : (r s : Ordering) → r ≡ ordering_reverse s → is_le (ordering_then r Equal) ≡ is_ge s
-    turned r s e = grind arith
+past-before v w = (turned (precedence v w) (precedence w v) (precedence_total.antisymm v w)).0
 
 pub past-after : (v w : VersionValue) → is_past precedence (Beside v true) w ≡ is_gt (precedence w v)
-past-after v w = turned (precedence v w) (precedence w v) (precedence_total.antisymm v w)
-  where
-    turned : (r s : Ordering) → r ≡ ordering_reverse s → is_le (ordering_then r Greater) ≡ is_gt s
-    turned r s e = grind arith
+past-after v w = (turned (precedence v w) (precedence w v) (precedence_total.antisymm v w)).1
 
 pub ruleset past_named = (past-before, past-after)

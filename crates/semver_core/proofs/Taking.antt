@@ -1,6 +1,6 @@
 -- A version is made or copied without memory where it has no identifiers, or the pre-release 0 alone.
 use Rattle.semver_core.proofs.Common.{AlphaNumeric, Id, Numeric, VersionValue, HasIdentifiers, List, [], arith, inl, inr, refl}
-use Rattle.semver_core.proofs.Common.{true, ◌∷◌, ◌≡◌, nat_tests, cases_Bool, eqb-true, ◌==◌, Err, Ok, Result}
+use Rattle.semver_core.proofs.Common.{true, ◌∷◌, ◌≡◌, nat_tests, cases_Bool, eqb-true, ◌==◌, Result}
 use Rattle.{semver_core.specs.Values.Memory.takes_memory, std.specs.Prelude.{IsOk, OnErr}}
 
 taken : (v : VersionValue) (pre build : List Id) → v.pre_release ≡ pre → v.build ≡ build → HasIdentifiers v
@@ -17,5 +17,4 @@ taken v (Numeric n ∷ []) [] e f h none = elim (cases_Bool (n == 0)) [
 
 pub taking : {A E : Type 0} (v : VersionValue) (r : Result A E) → OnErr r (HasIdentifiers v)
     → (v.pre_release ≡ Numeric 0 ∷ [] → v.build ≡ [] → IsOk r) → OnErr r (takes_memory v ≡ true)
-taking v (Ok x) h none = tt
-taking v (Err x) h none = taken v v.pre_release v.build refl refl h (λ e f. let w = none e f in grind (arith, w))
+taking v r h none = grind (arith, taken v v.pre_release v.build refl refl)

@@ -53,6 +53,7 @@ impl Identifier {
 
     /// Whether a text spells a list of identifiers: it is empty, or runs of one or more ASCII
     /// letters, digits and `-` joined by dots, as `rc.1`. `Version::from_texts` requires it.
+    #[tactic(auto, using(crate::proofs::Text::Ends::whole_lists))]
     pub fn is_list(text: &[u8]) -> bool
         ensures { result ≡ is_listed text.now }
     {

@@ -20,6 +20,7 @@ use std::alloc::{AllocError, Global};
 
 // Adds the key of a version to bytes.
 #[inline(never)]
+#[tactic(auto, using(std::proofs::lemmas::Grind::common_steps))]
 pub(crate) fn write_key<V: Versioned>(version: &V, bytes: &mut Vec<u8>) -> Result<(), AllocError>
     ensures added { OnOk result
         (bytes.new.items ≡ bytes.old.items ++ key (V.value version.now)) }

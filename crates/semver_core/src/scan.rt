@@ -70,6 +70,7 @@ pub fn skip_whitespace(text: &str, at: usize) -> usize
 ///
 /// `trim(" \u{FEFF}1.x || 2 ")` is `"1.x || 2"`.
 #[inline]
+#[tactic(auto, using(crate::proofs::Text::Trims::trimmed))]
 pub fn trim(text: &str) -> &str
     ensures middle { IsTrim text.now result.now }
 {
@@ -369,6 +370,7 @@ fn mixed_run(bytes: &[u8], start: usize) -> (usize, Option<u64>)
 
 // The identifier at a place where a run begins, by what `scan_run` found there.
 #[inline(always)]
+#[tactic(auto, using(crate::proofs::Text::Digits::run_facts))]
 pub(crate) fn run_id(
     alloc: Global,
     text: &str,

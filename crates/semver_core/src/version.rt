@@ -139,6 +139,7 @@ impl Version {
     }
 
     /// The identifiers of the pre-release; none where the version is a release.
+    #[tactic(auto, using(crate::proofs::Values::Lists::front_view))]
     pub fn pre_release(&self) -> &[Identifier]
         ensures value { ids_view result.now ≡ self.now.pre_release }
         ensures valid { IsVersion self.now }
@@ -151,6 +152,7 @@ impl Version {
     }
 
     /// The identifiers of the build metadata, which no comparison looks at.
+    #[tactic(auto, using(crate::proofs::Values::Lists::rest_view))]
     pub fn build(&self) -> &[Identifier]
         ensures value { ids_view result.now ≡ self.now.build }
         ensures valid { IsVersion self.now }

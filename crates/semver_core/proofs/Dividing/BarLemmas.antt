@@ -1,29 +1,22 @@
 -- The parts of a text, cut at its bars.
+use Rattle.semver_core.proofs.Common.{trim, [], IsCharBoundary, IsUtf8, List, None, Option, Some, arith}
+use Rattle.semver_core.proofs.Common.{drop, false, get_or, inl, inr, length, refl, suc, true, ℕ, ◌+◌, ◌<◌}
+use Rattle.semver_core.proofs.Common.{◌∷◌, ◌≡◌, ◌≤◌, nat_tests, cases_Bool, IsCharBoundary-after_ascii}
+use Rattle.semver_core.proofs.Common.{second_so}
 use Rattle.semver_core.specs.Internal.Parts.{bars_at, begins_bars, cut_bars, front_part, later_parts, parts}
-use Rattle.semver_core.specs.Internal.Spaces.{trim}
-use Rattle.semver_core.specs.Text.Bars.{is_bar}
-use Rattle.semver_core.specs.Text.Characters.{begins}
-use Rattle.std.proofs.Common.{[], IsCharBoundary, IsUtf8, List, None, Option, Some, arith, drop, false, get_or, inl, inr, length, refl, subst, suc}
-use Rattle.std.proofs.Common.{true, ℕ, ◌+◌, ◌<◌, ◌∷◌, ◌≡◌, ◌≤◌}
-use Rattle.std.proofs.lemmas.Bool.Decides.{nat_tests}
-use Rattle.std.proofs.lemmas.Bool.{cases_Bool, eqb-true}
 use Rattle.std.proofs.lemmas.List.{drop_more, get_or-drop}
-use Rattle.std.proofs.lemmas.Str.{IsCharBoundary-after_ascii, IsCharBoundary-before_ascii}
-use Rattle.std.specs.Cmp.{second_so}
+use Rattle.std.proofs.lemmas.Str.{IsCharBoundary-before_ascii}
 
 pub bars_fit : (text : List ℕ) → bars_at text ≤ length text
 unfolding bars_at
 bars_fit [] = omega arith
 bars_fit (b ∷ rest) = grind (arith, bars_fit rest)
 
-begins_bar-some : (text : List ℕ) → begins is_bar text ≡ true → 0 < length text
-begins_bar-some text h = grind arith
-
 -- where bars stand, both fit
 pub bars_room : (text : List ℕ) → bars_at text < length text → bars_at text + 2 ≤ length text
 unfolding bars_at
 bars_room [] h = absurd (omega arith)
-bars_room (b ∷ rest) h = grind (arith, begins_bar-some, second_so, bars_room rest)
+bars_room (b ∷ rest) h = grind (arith, second_so, bars_room rest)
 
 pub bars_at-stop : (text : List ℕ) → begins_bars text ≡ true → bars_at text ≡ 0
 unfolding bars_at
@@ -53,12 +46,8 @@ cut_bars-front (b ∷ rest) = elim (cases_Bool (begins_bars (b ∷ rest))) [
       rw (other, cut_bars) (grind (arith, nat_tests, sum, cut_bars-front rest))
 ]
 
--- bars are ASCII, so a text may be cut at them
-bar-low : (b : ℕ) → is_bar b ≡ true → b < 128
-bar-low b h = let e = eqb-true b 124 h in omega arith
-
 here-low : (text : List ℕ) → begins_bars text ≡ true → (get_or text 0 0 < 128) × (get_or text 1 0 < 128)
-here-low text h = grind (arith, bar-low)
+here-low text h = grind (arith, nat_tests)
 
 bars-begin : (text : List ℕ) → bars_at text < length text → begins_bars (drop (bars_at text) text) ≡ true
 unfolding bars_at
@@ -73,11 +62,9 @@ bars_boundary text at e h = grind (arith, IsCharBoundary-before_ascii, bars-low)
 
 pub bars_behind : (text : List ℕ) (at : ℕ) → IsUtf8 text → at ≡ bars_at text → at < length text → IsCharBoundary text (at + 2)
 bars_behind text at u e h =
-    let less : bars_at text < length text = omega arith in
-    let room = bars_room text less in
-    let next : bars_at text + 1 < length text = omega arith in
-    let place : bars_at text + 1 + 1 ≡ at + 2 = omega arith in
-    subst (λ (n : ℕ). IsCharBoundary text n) place (IsCharBoundary-after_ascii text (bars_at text + 1) u next (bars-low text less).1)
+    let room = bars_room text (omega arith) in
+    let low = bars-low text (omega arith) in
+    grind (arith, IsCharBoundary-after_ascii text (at + 1) u)
 
 -- the parts are the one at the front, trimmed, and those of what follows
 pub parts-front : (text : List ℕ) → parts text ≡ trim (front_part text).0 ∷ later_parts (front_part text).1

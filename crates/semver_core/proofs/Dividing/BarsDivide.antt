@@ -17,19 +17,11 @@ unfolding cut_bars
 whole-piece [] h = refl
 whole-piece (b ∷ rest) h = grind (arith, whole-piece rest)
 
--- a piece that ends before bars
-piece-ended : (b : ℕ) (rest t : List ℕ) → (is_bar b && begins is_bar rest) ≡ false → ends is_bar (b ∷ rest) ≡ false
-    → (is_bar b && begins is_bar (rest ++ 124 ∷ t)) ≡ false
-piece-ended b rest t here ends = grind arith
-
-ends-rest : (b : ℕ) (rest : List ℕ) → ends is_bar (b ∷ rest) ≡ false → ends is_bar rest ≡ false
-ends-rest b rest h = grind arith
-
 front-piece : (piece t : List ℕ) → has_bars piece ≡ false → ends is_bar piece ≡ false
     → cut_bars false (piece ++ 124 ∷ (124 ∷ t)) ≡ piece ∷ cut_bars false t
 unfolding cut_bars
 front-piece [] t h ends = refl
-front-piece (b ∷ rest) t h ends = grind (arith, piece-ended b rest (124 ∷ t), ends-rest, front-piece rest t)
+front-piece (b ∷ rest) t h ends = grind (arith, front-piece rest t)
 
 pub bars_once : (text : List ℕ) (pieces : List (List ℕ)) → IsCutAtBars text pieces → pieces ≡ cut_bars false text
 bars_once text pieces (one_piece piece h) = sym (whole-piece piece h)

@@ -25,8 +25,7 @@ no_zero bytes = list_all (λ c. not (c == 0)) bytes ≡ true
 
 front_key : (front u : List ℕ) → no_zero front → text_key (front ++ u) ≡ front ++ text_key u
 front_key [] u h = refl
-front_key (zero ∷ front) u h = cc
-front_key (suc c ∷ front) u h = grind (arith, nat_tests, front_key front u)
+front_key (c ∷ front) u h = grind (arith, nat_tests, front_key front u)
 
 text_split : (piece tail text rest : List ℕ) → no_zero piece → piece ++ 0 ∷ tail ≡ text_key text ++ rest
     → (u : List ℕ) × (text ≡ piece ++ u) × (0 ∷ tail ≡ text_key u ++ rest)
@@ -48,8 +47,7 @@ utf8_parts piece w h =
 
 piece_by : (piece tail u rest : List ℕ) → IsUtf8 (piece ++ u) → 0 ∷ tail ≡ text_key u ++ rest → IsUtf8 piece
 piece_by piece tail [] rest h e = rw append-nil at h
-piece_by piece tail (zero ∷ u) rest h e = (utf8_parts piece u h).0
-piece_by piece tail (suc d ∷ u) rest h e = cc
+piece_by piece tail (c ∷ u) rest h e = grind (arith, nat_tests, utf8_parts piece u)
 
 -- the bytes before the first 0 are UTF-8
 pub piece_utf8 : (others piece tail rest : List ℕ) → others ≡ piece ++ 0 ∷ tail → no_zero piece → IsTextFront others rest → IsUtf8 piece
@@ -59,8 +57,7 @@ piece_utf8 others piece tail rest e h (text, utf8, f) =
 
 text_has_end : (text rest : List ℕ) → no_zero (text_key text ++ rest) → ⊥
 text_has_end [] rest h = cc
-text_has_end (zero ∷ text) rest h = cc
-text_has_end (suc c ∷ text) rest h = grind (arith, nat_tests, text_has_end text rest)
+text_has_end (c ∷ text) rest h = grind (arith, nat_tests, text_has_end text rest)
 
 pub none_found : (others rest : List ℕ) → no_zero others → IsTextFront others rest → ⊥
 none_found others rest h (text, utf8, e) = text_has_end text rest (rw e at h)
@@ -100,8 +97,7 @@ ids_found others rest (x, is, e) (ids, all, f) = (x ∷ ids, All-cons IsId x ids
 -- what follows the first identifier is the key of the others
 pub ids_next : (others rest : List ℕ) → IsIdFront others rest → ((more : List ℕ) → IsLow more → IsIdFront others more → rest ≡ more)
     → AreIds others → AreIds rest
-ids_next others rest (Numeric n, is, f) only ([], all, e) = cc
-ids_next others rest (AlphaNumeric t, is, f) only ([], all, e) = cc
+ids_next others rest (x, is, f) only ([], all, e) = grind arith
 ids_next others rest front only (x ∷ u, all, e) =
     (u, All-tail IsId x u all, only (ids_key u) (ids_start u) (x, All-head IsId x u all, e))
 
@@ -154,6 +150,4 @@ ids_of_pre bytes (x ∷ list, all, e) other = (x ∷ list, all, e)
 
 pub pre_of_ids : (bytes : List ℕ) (ids : List Id) → IsPre bytes → ids_key ids ≡ bytes → pre_key ids ≡ bytes
 pre_of_ids bytes (x ∷ ids) pre e = e
-pre_of_ids bytes [] ([], all, f) e = cc
-pre_of_ids bytes [] (Numeric n ∷ list, all, f) e = cc
-pre_of_ids bytes [] (AlphaNumeric t ∷ list, all, f) e = cc
+pre_of_ids bytes [] (list, all, f) e = grind arith

@@ -1,15 +1,12 @@
 -- Comparing the bytes of numbers is comparing the numbers.
-use Rattle.std.proofs.Common.{ℕ, ◌≡◌, ◌<◌, ◌≤◌, ◌^◌, ◌*◌, ◌+◌, ◌/◌, ◌%◌, ◌++◌, ◌∷◌, List, [], refl, ap, arith, zero, suc, ◌∙◌, sym, true, false, Bool}
-use Rattle.std.specs.Cmp.Lexicographic.{slice_cmp}
+use Rattle.semver_core.proofs.Common.{ℕ, ◌≡◌, ◌<◌, ◌≤◌, ◌^◌, ◌*◌, ◌+◌, ◌/◌, ◌%◌, ◌++◌, ◌∷◌, List, [], refl, ap}
+use Rattle.semver_core.proofs.Common.{arith, zero, suc, ◌∙◌, sym, slice_cmp, ordering_then, Ordering, Less, Equal}
+use Rattle.semver_core.proofs.Common.{Greater, nat_tests}
 use Rattle.std.specs.Cmp.{nat_cmp_is, ranks}
 use Rattle.std.specs.Int.{byte_at, bytes_high_first}
-use Rattle.std.specs.Ordering.{MatchOrdering, nat_cmp, ordering_then}
-use Rattle.std.specs.declared.cmp.Ordering.{Ordering}
-use Rattle.std.specs.declared.cmp.Ordering.TheVariants.{Less, Equal, Greater}
+use Rattle.std.specs.Ordering.{MatchOrdering, nat_cmp}
 use Rattle.std.proofs.lemmas.Nat.{mod-mul-add}
 use Rattle.std.proofs.Math.Nat.{div-add-mod, mod-eq_of_lt, mod-lt, mul-le-mul_left, one-le-pow, pow-suc}
-use Rattle.std.specs.Prelude.{nat_lt}
-use borrow.Author.Tests.{ltb-true, ltb-false}
 use Rattle.semver_core.specs.Keys.{number_key}
 use Rattle.semver_core.specs.Internal.KeyReading.{IsLow, low}
 
@@ -18,9 +15,7 @@ abbrev pub bytes_cmp : List ℕ → List ℕ → Ordering
 bytes_cmp = slice_cmp nat_cmp
 
 pub then_assoc : (a b c : Ordering) → ordering_then (ordering_then a b) c ≡ ordering_then a (ordering_then b c)
-then_assoc Less b c = refl
-then_assoc Equal b c = refl
-then_assoc Greater b c = refl
+then_assoc a b c = grind arith
 
 pub cmp_below : (m n : ℕ) → m < n → nat_cmp m n ≡ Less
 cmp_below m n h = sym (nat_cmp_is m n Less h)
@@ -89,14 +84,8 @@ pub data Form (n : ℕ) : List ℕ → Type 0 where
   four : 2 ^ 16 ≤ n → n < 2 ^ 32 → Form n (252 ∷ bytes_high_first 4 n)
   eight : 2 ^ 32 ≤ n → n < 2 ^ 64 → Form n (253 ∷ bytes_high_first 8 n)
 
-form_by : (n : ℕ) (a b c : Bool) → nat_lt n 251 ≡ a → nat_lt n (2 ^ 16) ≡ b → nat_lt n (2 ^ 32) ≡ c → n < 2 ^ 64 → Form n (number_key n)
-form_by n true b c p q t h = rw p (one (ltb-true n 251 p))
-form_by n false true c p q t h = rw (p, q) (two (ltb-false n 251 p) (ltb-true n (2 ^ 16) q))
-form_by n false false true p q t h = rw (p, q, t) (four (ltb-false n (2 ^ 16) q) (ltb-true n (2 ^ 32) t))
-form_by n false false false p q t h = rw (p, q, t) (eight (ltb-false n (2 ^ 32) t) h)
-
 pub form : (n : ℕ) → n < 2 ^ 64 → Form n (number_key n)
-form n = form_by n _ _ _ refl refl refl
+form n h = grind (arith, nat_tests, one, two, four, eight)
 
 cmp_by : (m n : ℕ) (k l r s : List ℕ) → Form m k → Form n l → bytes_cmp (k ++ r) (l ++ s) ≡ ordering_then (nat_cmp m n) (bytes_cmp r s)
 cmp_by m n _ _ r s (one h) (one k) = refl
@@ -122,8 +111,4 @@ pub number_cmp : (m n : ℕ) (r s : List ℕ) → m < 2 ^ 64 → n < 2 ^ 64
 number_cmp m n r s h k = cmp_by m n _ _ r s (form m h) (form n k)
 
 pub number_low : (n : ℕ) (r : List ℕ) → n < 2 ^ 64 → IsLow (number_key n ++ r)
-number_low n r h = by (number_key n) (form n h)
-  where
-    by : (k : List ℕ) → Form n k → IsLow (k ++ r)
-    by _ (one h) = low n r (omega arith)
-    by _ l = low _ _ (omega arith)
+number_low n r h = let f = form n h in grind (arith, low)

@@ -1,23 +1,17 @@
 -- Comparing keys is comparing versions.
-use Rattle.std.proofs.Common.{ℕ, ◌≡◌, ◌++◌, ◌∷◌, List, [], refl, ap, arith, zero, suc, ◌∙◌, sym, append-nil, append_assoc}
-use Rattle.std.specs.Cmp.{tied_itself}
-use Rattle.std.specs.Cmp.Lexicographic.{nat_list_cmp_total, slice_cmp}
-use Rattle.std.specs.Ordering.{nat_cmp, ordering_then}
-use Rattle.std.specs.Prelude.{All}
+use Rattle.semver_core.proofs.Common.{ℕ, ◌≡◌, ◌++◌, ◌∷◌, List, [], refl, ap, arith, zero, suc, ◌∙◌, sym, append-nil}
+use Rattle.semver_core.proofs.Common.{append_assoc, tied_itself, slice_cmp, ordering_then, All, Ordering, Less}
+use Rattle.semver_core.proofs.Common.{Equal, Greater, AlphaNumeric, Id, Numeric, id_cmp, pre_cmp, precedence, IsId}
+use Rattle.semver_core.proofs.Common.{IsVersion, VersionValue}
+use Rattle.std.specs.Cmp.Lexicographic.{nat_list_cmp_total}
+use Rattle.std.specs.Ordering.{nat_cmp}
 use Rattle.std.proofs.lemmas.List.Elements.{All-head, All-tail}
-use Rattle.std.specs.declared.cmp.Ordering.{Ordering}
-use Rattle.std.specs.declared.cmp.Ordering.TheVariants.{Less, Equal, Greater}
-use Rattle.semver_core.proofs.Encoding.Numbers.{bytes_cmp, cmp_above, cmp_below, is_above, is_below, number_cmp, then_assoc}
+use Rattle.semver_core.proofs.Encoding.Numbers.{bytes_cmp, cmp_above, cmp_below, number_cmp, then_assoc}
 use Rattle.semver_core.specs.Internal.KeyReading.{IsLow, low}
 use Rattle.semver_core.specs.Keys.{id_key, ids_key, key, pre_key, text_key}
-use Rattle.semver_core.specs.Text.Identifiers.{AlphaNumeric, Id, Numeric}
-use Rattle.semver_core.specs.Values.Order.{id_cmp, pre_cmp, precedence}
-use Rattle.semver_core.specs.Values.Versions.{IsId, IsVersion, VersionValue}
 
 pub then_equal : (a : Ordering) → ordering_then a Equal ≡ a
-then_equal Less = refl
-then_equal Equal = refl
-then_equal Greater = refl
+then_equal a = grind arith
 
 pub low_below : (r s : List ℕ) → IsLow r → bytes_cmp r (255 ∷ s) ≡ Less
 low_below _ s (low c rest h) = rw (cmp_below c 255 h) refl
@@ -27,16 +21,10 @@ low_above _ s (low c rest h) = rw (cmp_above 255 c h) refl
 
 text_cmp : (s t q r : List ℕ) → IsLow q → IsLow r
     → bytes_cmp (text_key s ++ q) (text_key t ++ r) ≡ ordering_then (slice_cmp nat_cmp s t) (bytes_cmp q r)
-text_cmp [] [] q r h k = refl
-text_cmp [] (zero ∷ t) q r h k = low_below q (text_key t ++ r) h
-text_cmp [] (suc d ∷ t) q r h k = is_below 0 (suc d) _ (omega arith)
-text_cmp (zero ∷ s) [] q r h k = low_above r (text_key s ++ q) k
-text_cmp (suc c ∷ s) [] q r h k = is_above (suc c) 0 _ (omega arith)
 text_cmp (zero ∷ s) (zero ∷ t) q r h k = text_cmp s t q r h k
-text_cmp (zero ∷ s) (suc d ∷ t) q r h k = rw (cmp_below 0 (suc d) (omega arith)) refl
-text_cmp (suc c ∷ s) (zero ∷ t) q r h k = rw (cmp_above (suc c) 0 (omega arith)) refl
 text_cmp (suc c ∷ s) (suc d ∷ t) q r h k =
     ap (ordering_then (nat_cmp (suc c) (suc d))) (text_cmp s t q r h k) ∙ sym (then_assoc (nat_cmp (suc c) (suc d)) _ _)
+text_cmp s t q r h k = grind (arith, low_below, low_above, cmp_below, cmp_above)
 
 ids_low : (xs : List Id) (r : List ℕ) → IsLow (ids_key xs ++ r)
 ids_low [] r = low 0 r (omega arith)
@@ -51,11 +39,8 @@ identifier_cmp _ _ q r h k g l = refl
 
 ids_cmp : (xs ys : List Id) (q r : List ℕ) → All IsId xs → All IsId ys
     → bytes_cmp (ids_key xs ++ q) (ids_key ys ++ r) ≡ ordering_then (slice_cmp id_cmp xs ys) (bytes_cmp q r)
-ids_cmp [] [] q r h k = refl
-ids_cmp [] (Numeric n ∷ ys) q r h k = refl
-ids_cmp [] (AlphaNumeric t ∷ ys) q r h k = refl
-ids_cmp (Numeric n ∷ xs) [] q r h k = refl
-ids_cmp (AlphaNumeric t ∷ xs) [] q r h k = refl
+ids_cmp [] ys q r h k = grind arith
+ids_cmp xs [] q r h k = grind arith
 ids_cmp (x ∷ xs) (y ∷ ys) q r h k = rw (append_assoc (id_key x) (ids_key xs) q, append_assoc (id_key y) (ids_key ys) r)
     (identifier_cmp x y _ _ (All-head IsId x xs h) (All-head IsId y ys k) (ids_low xs q) (ids_low ys r)
     ∙ (ap (ordering_then (id_cmp x y)) (ids_cmp xs ys q r (All-tail IsId x xs h) (All-tail IsId y ys k))
@@ -63,11 +48,8 @@ ids_cmp (x ∷ xs) (y ∷ ys) q r h k = rw (append_assoc (id_key x) (ids_key xs)
 
 pre_release_cmp : (xs ys : List Id) (q r : List ℕ) → All IsId xs → All IsId ys
     → bytes_cmp (pre_key xs ++ q) (pre_key ys ++ r) ≡ ordering_then (pre_cmp xs ys) (bytes_cmp q r)
-pre_release_cmp [] [] q r h k = refl
-pre_release_cmp [] (Numeric n ∷ ys) q r h k = refl
-pre_release_cmp [] (AlphaNumeric t ∷ ys) q r h k = refl
-pre_release_cmp (Numeric n ∷ xs) [] q r h k = refl
-pre_release_cmp (AlphaNumeric t ∷ xs) [] q r h k = refl
+pre_release_cmp [] ys q r h k = grind arith
+pre_release_cmp xs [] q r h k = grind arith
 pre_release_cmp (x ∷ xs) (y ∷ ys) q r h k = ids_cmp (x ∷ xs) (y ∷ ys) q r h k
 
 pub key_followed : (v w : VersionValue) (r s : List ℕ) → IsVersion v → IsVersion w
@@ -101,3 +83,5 @@ no_key_before v w r h k e = by (precedence v w) r (sym (key_followed v w r [] h 
     by Equal [] e = (refl, refl)
     by Equal (c ∷ r) e = cc
     by _ r e = cc
+
+pub ruleset key_order = (key_cmp, key_followed)

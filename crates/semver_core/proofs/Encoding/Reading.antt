@@ -1,10 +1,8 @@
 -- What the bytes at the front of a key say.
-use Rattle.std.proofs.Common.{ℕ, ◌≡◌, ◌<◌, ◌+◌, ◌++◌, ◌∷◌, List, [], refl, arith, zero, suc, length, drop, take}
-use Rattle.std.proofs.lemmas.List.{take-append-drop}
+use Rattle.semver_core.proofs.Common.{ℕ, ◌≡◌, ◌<◌, ◌+◌, ◌++◌, ◌∷◌, List, [], refl, arith, zero, suc, length, drop}
+use Rattle.semver_core.proofs.Common.{take, take-append-drop, get_or, AlphaNumeric, Id, Numeric}
 use Rattle.std.proofs.lemmas.Grind.{common_steps, elements}
-use Rattle.std.proofs.Math.ListN.{get_or}
 use Rattle.semver_core.specs.Keys.{ids_key, text_key}
-use Rattle.semver_core.specs.Text.Identifiers.{AlphaNumeric, Id, Numeric}
 use Rattle.semver_core.specs.Internal.KeyReading.{IsLow, low}
 
 pub ids_start : (xs : List Id) → IsLow (ids_key xs)

@@ -1,14 +1,12 @@
 -- The text of which a key is read: the bytes of the key below 255, without the end.
-use Rattle.std.proofs.Common.{ℕ, ◌≡◌, ◌<◌, ◌≤◌, ◌-◌, ◌++◌, ◌∷◌, Bool, List, [], IsUtf8, arith, length, refl, suc, take, true, zero}
+use Rattle.semver_core.proofs.Common.{ℕ, ◌≡◌, ◌<◌, ◌≤◌, ◌-◌, ◌++◌, ◌∷◌, Bool, List, [], IsUtf8, arith, length, refl}
+use Rattle.semver_core.proofs.Common.{take, true, IsScalar, list_all, take-append_seam, nat_tests}
+use Rattle.semver_core.proofs.Common.{take_all, list_all-append}
 use Rattle.std.specs.Prelude.{nat_lt}
-use Rattle.std.specs.Char.{IsScalar}
-use Rattle.std.specs.List.{filter, list_all}
+use Rattle.std.specs.List.{filter}
 use Rattle.std.proofs.Math.Logic.{⊎_elim}
-use Rattle.std.proofs.Math.Seq.{take-append_seam}
 use Rattle.std.proofs.Math.Utf8.{encode, encodes, scalar_cases, scalars}
-use Rattle.std.proofs.lemmas.Bool.Decides.{nat_tests}
 use Rattle.std.proofs.lemmas.Grind.{common_steps}
-use Rattle.std.proofs.lemmas.List.{take_all, Folds.list_all-append}
 use Rattle.semver_core.specs.Internal.KeyReading.{IsTextKey}
 use Rattle.semver_core.specs.Keys.{text_key}
 
@@ -28,8 +26,7 @@ all_low (c ∷ cs) h = grind (arith, list_all-append, low_bytes c, all_low cs)
 
 kept : (text : List ℕ) → list_all is_low text ≡ true → filter is_low (text_key text) ≡ text ++ 0 ∷ []
 kept [] h = refl
-kept (zero ∷ text) h = grind (arith, nat_tests, kept text)
-kept (suc c ∷ text) h = grind (arith, nat_tests, kept text)
+kept (c ∷ text) h = grind (arith, nat_tests, kept text)
 
 pub text_back : (key out last : List ℕ) (len at : ℕ) → IsTextKey key → out ≡ filter is_low (take at key) → length key ≤ at
     → last ≡ take (len - 1) out → len ≡ length out → IsUtf8 last × (text_key last ≡ key)

@@ -1,11 +1,11 @@
 -- The last number of a list.
 use Rattle.semver_core.proofs.Common.{Fault, advance, has_numeric, one_more, raise_last, is_empty, AlphaNumeric}
-use Rattle.semver_core.proofs.Common.{Id, Numeric, id_cmp, IdentifierBase, List, None, Option}
+use Rattle.semver_core.proofs.Common.{Id, Numeric, id_cmp, IdentifierBase, List, Option}
 use Rattle.semver_core.proofs.Common.{Some, [], ap, arith, false, inl, inr, length, refl, sym}
 use Rattle.semver_core.proofs.Common.{take, true, ℕ, ◌++◌, ◌+◌, ◌-◌, ◌<◌, ◌∙◌, ◌∷◌, ◌≡◌, ◌≤◌, nat_tests, cases_lt}
 use Rattle.semver_core.proofs.Common.{is_ascii_digit, tied_itself, list_all, ◌==◌, Err, Ok, Result, digits_value, bytes_eq}
 use Rattle.semver_core.proofs.Common.{Overflow, is_kept, ◌>>=◌, Tracks, id_total, ◌^◌}
-use Rattle.semver_core.proofs.Common.{drop, take-append-drop, drop-drop}
+use Rattle.semver_core.proofs.Common.{not, ◌&&◌, drop, take-append-drop, drop-drop}
 use Rattle.semver_core.specs.{Increments.Table.asked, Internal.OrderLaws.id_same}
 use Rattle.semver_core.specs.Internal.NextIds.{numbered}
 use Rattle.std.proofs.lemmas.{List.{Folds.list_any-append}, Str.Parse.parse_digits}
@@ -17,16 +17,12 @@ has_it : (front back : List Id) (n : ℕ) → has_numeric (front ++ Numeric n �
 has_it front back n = rw list_any-append (grind arith)
 
 bind_twice : {A B C : Type 0} (r : Result A Fault) (f : A → B) (g : B → C) → ((r >>= λ x. Ok (f x)) >>= λ y. Ok (g y)) ≡ (r >>= λ x. Ok (g (f x)))
-bind_twice (Ok x) f g = refl
-bind_twice (Err e) f g = refl
+bind_twice r f g = grind arith
 
 raise_divided : (front back : List Id) (n : ℕ) → has_numeric back ≡ false
     → raise_last (front ++ Numeric n ∷ back) ≡ (one_more n >>= λ m. Ok (front ++ Numeric m ∷ back))
 raise_divided [] back n h = rw h refl
-raise_divided (AlphaNumeric text ∷ front) back n h =
-    ap (λ r. r >>= λ list. Ok (AlphaNumeric text ∷ list)) (raise_divided front back n h) ∙ bind_twice (one_more n) (λ m. front ++ Numeric m ∷ back) (λ list. AlphaNumeric text ∷ list)
-raise_divided (Numeric k ∷ front) back n h = rw (has_it front back n)
-    (ap (λ r. r >>= λ list. Ok (Numeric k ∷ list)) (raise_divided front back n h) ∙ bind_twice (one_more n) (λ m. front ++ Numeric m ∷ back) (λ list. Numeric k ∷ list))
+raise_divided (x ∷ front) back n h = grind (arith, has_it front back n, raise_divided front back n h)
 
 pub list_raised : (front back : List Id) (n : ℕ) → has_numeric back ≡ false → n < 2 ^ 64 - 1
     → raise_last (front ++ Numeric n ∷ back) ≡ Ok (front ++ Numeric (n + 1) ∷ back)
@@ -42,13 +38,10 @@ list_kept id list = (there list, λ p. rw p.2 (ap is_eq (tied_itself id_total (a
   where
     there : (list : List Id) → IsTrue (is_kept id list) → (n : ℕ) × (rest : List Id) × (list ≡ asked id ∷ Numeric n ∷ rest)
     there (x ∷ Numeric n ∷ rest) h = (n, rest, ap (λ y. y ∷ Numeric n ∷ rest) (id_same x (asked id) ((Equal-is _).0 h)))
-    there (x ∷ []) h = cc
-    there (x ∷ y ∷ rest) h = cc
-    there list h = cc
+    there list h = absurd (grind arith)
 
 by_raise : (list : List Id) (id : List ℕ) (base : IdentifierBase) → has_numeric list ≡ true → advance list id base ≡ raise_last list
-by_raise [] id base h = cc
-by_raise (x ∷ xs) id base h = rw h refl
+by_raise list id base h = grind arith
 
 pub value_run : {E : Type 0} (ds : List ℕ) (r : Result ℕ E) → ParsesUnsigned 64 10 ds r → list_all is_ascii_digit ds ≡ true → 0 < length ds
     → MatchResult r (λ n. digits_value 10 ds ≡ n) (λ _. 2 ^ 64 ≤ digits_value 10 ds)
@@ -59,23 +52,15 @@ value_run {E} ds (Err e) h d some = elim (cases_lt (digits_value 10 ds) (2 ^ 64)
 ]
 
 -- an identifier matches the asked one
-pub asked_number : (wanted : List ℕ) (n : ℕ) → list_all is_ascii_digit wanted ≡ true
-    → is_eq (id_cmp (Numeric n) (asked wanted)) ≡ (digits_value 10 wanted == n)
-asked_number wanted n d = rw d (grind (arith, nat_tests))
+pub asked_number : (wanted : List ℕ) (n : ℕ)
+    → is_eq (id_cmp (Numeric n) (asked wanted)) ≡ (list_all is_ascii_digit wanted && digits_value 10 wanted == n)
+asked_number wanted n = grind (arith, nat_tests)
 
-pub asked_other : (wanted : List ℕ) (n : ℕ) → list_all is_ascii_digit wanted ≡ false
-    → is_eq (id_cmp (Numeric n) (asked wanted)) ≡ false
-asked_other wanted n d = rw d refl
+pub asked_text : (wanted text : List ℕ)
+    → is_eq (id_cmp (AlphaNumeric text) (asked wanted)) ≡ (not (list_all is_ascii_digit wanted) && bytes_eq text wanted)
+asked_text wanted text = grind (arith, is_eq-slice_cmp text wanted)
 
-pub asked_text : (wanted text : List ℕ) → list_all is_ascii_digit wanted ≡ false
-    → is_eq (id_cmp (AlphaNumeric text) (asked wanted)) ≡ bytes_eq text wanted
-asked_text wanted text d = rw d (is_eq-slice_cmp text wanted)
-
-pub asked_digits : (wanted text : List ℕ) → list_all is_ascii_digit wanted ≡ true
-    → is_eq (id_cmp (AlphaNumeric text) (asked wanted)) ≡ false
-asked_digits wanted text d = rw d refl
-
-pub ruleset asked_matches = (asked_number, asked_other, asked_text, asked_digits)
+pub ruleset asked_matches = (asked_number, asked_text)
 
 -- a list with a last number goes on by raising it
 pub advance_at : (list : List Id) (id : List ℕ) (base : IdentifierBase) (at n : ℕ) → Tracks list [] (Some (at, n))
@@ -86,24 +71,19 @@ advance_at list id base at n last =
 
 -- it is not empty
 pub some_numbered : (list : List Id) (n before : ℕ) → false ≡ is_empty (numbered list (Some n) before)
-some_numbered list n before = by (take before list)
-  where
-    by : (front : List Id) → false ≡ is_empty (front ++ Numeric n ∷ drop (before + 1) list)
-    by [] = refl
-    by (x ∷ front) = refl
+some_numbered list n before = grind arith
 
 -- one more identifier is looked at
 pub tracks_text : (list rest : List Id) (last : Option (ℕ × ℕ)) (text : List ℕ) → Tracks list (AlphaNumeric text ∷ rest) last
     → Tracks list rest last
-tracks_text list rest None text h = h
-tracks_text list rest (Some last) text h = h
+tracks_text list rest last text h = grind arith
 
 pub drop_next : (list : List Id) (i : ℕ) (rest : List Id) (x : Id) → drop i list ≡ x ∷ rest → rest ≡ drop (i + 1) list
 drop_next list i rest x e = ap (drop 1) (sym e) ∙ drop-drop 1 i list
 
 pub tracks_number : (list rest : List Id) (at n : ℕ) → drop at list ≡ Numeric n ∷ rest → Tracks list rest (Some (at, n))
-tracks_number list rest at n e =
-    let behind = drop_next list at rest (Numeric n) e in (
-      sym (take-append-drop at list) ∙ ap (λ r. take at list ++ r) (e ∙ ap (λ r. Numeric n ∷ r) behind),
-      ap has_numeric (sym behind),
-    )
+tracks_number list rest at n e = grind (arith, take-append-drop, drop_next)
+
+pub ruleset tracking = (tracks_text, tracks_number, drop_next)
+
+pub ruleset inc_laws = (list_raised, list_overflows, list_kept)

@@ -1,12 +1,12 @@
 -- The versions that `inc` returns: they are the least ones, above the version, and keep its build.
-use Rattle.semver_core.proofs.Common.{Fault, advance, has_numeric, one_more, raise_last, list_text, is_empty}
-use Rattle.semver_core.proofs.Common.{AlphaNumeric, Id, Numeric, id_cmp, VersionValue, IsId, IdentifierBase, Bool, List}
-use Rattle.semver_core.proofs.Common.{[], ap, arith, false, length, refl, subst, true, ℕ, ◌++◌, ◌+◌, ◌-◌, ◌<◌, ◌∙◌, ◌∷◌}
+use Rattle.semver_core.proofs.Common.{Fault, advance, has_numeric, one_more, raise_last, is_empty}
+use Rattle.semver_core.proofs.Common.{AlphaNumeric, Id, Numeric, id_cmp, VersionValue, IsId, IdentifierBase, List}
+use Rattle.semver_core.proofs.Common.{[], arith, false, refl, subst, true, ℕ, ◌++◌, ◌+◌, ◌-◌, ◌<◌, ◌∷◌}
 use Rattle.semver_core.proofs.Common.{◌≡◌, nat_tests, and_parts, slice_cmp, tied_itself, ◌==◌, Err, Ok, Result, ⊤}
-use Rattle.semver_core.proofs.Common.{bytes_eq, Less, IsLeastVersion, InvalidIncrementArgument, Overflow, first_number}
-use Rattle.semver_core.proofs.Common.{identify, is_false, not-true, pre_step, ◌>>=◌, incremented, id_total, above_patch}
+use Rattle.semver_core.proofs.Common.{bytes_eq, Less, IsLeastVersion, Overflow, first_number}
+use Rattle.semver_core.proofs.Common.{identify, not-true, pre_step, ◌>>=◌, incremented, id_total, above_patch}
 use Rattle.semver_core.proofs.Common.{above_pre, below_more, pre_cmp, IsVersion, Value, IsOkAnd, codes, if◌then◌else◌}
-use Rattle.semver_core.proofs.Common.{nat_eq, not, ◌&&◌, ◌^◌, All-cons, All-nil, ordering_then}
+use Rattle.semver_core.proofs.Common.{cond_both, nat_eq, not, ◌&&◌, ◌^◌, All-cons, All-nil}
 use Rattle.semver_core.specs.Increments.Table.{checked, by_word, next_major, next_minor, next_patch, release_of}
 use Rattle.semver_core.specs.Internal.Successors.{less_first, above_major, above_minor}
 use Rattle.semver_core.specs.Values.Versions.{is_release}
@@ -14,25 +14,12 @@ use Rattle.std.proofs.lemmas.Slice.Eq.{bytes_eq-Decides}
 use Rattle.std.specs.List.{starts_with}
 use Rattle.semver_core.proofs.Values.NextLaws.{IsAbove, least_after_release, next_of_pre_release}
 
-pick : {A : Type 0} (P : A → Type 0) (t : Bool) (x y : A) → (t ≡ true → P x) → (t ≡ false → P y) → P (if t then x else y)
-pick P true x y f g = f refl
-pick P false x y f g = g refl
-
 -- one more, or the greatest number
 by_one : (P : Result VersionValue Fault → Type 0) (n : ℕ) (f : ℕ → Result VersionValue Fault)
     → (n ≡ 2 ^ 64 - 1 → P (Err Overflow)) → ((n ≡ 2 ^ 64 - 1 → ⊥) → P (f (n + 1))) → P (one_more n >>= f)
 by_one P n f none some =
-    pick (λ r. P (r >>= f)) (n == 2 ^ 64 - 1) (Err Overflow) (Ok (n + 1)) (λ h. none (grind (arith, nat_tests)))
+    cond_both (n == 2 ^ 64 - 1) (Err Overflow) (Ok (n + 1)) (λ r. P (r >>= f)) (λ h. none (grind (arith, nat_tests)))
     (λ h. some (grind (arith, nat_tests)))
-
-none_left : (xs : List Id) → is_empty xs ≡ true → xs ≡ []
-none_left xs h = grind arith
-
-filled : (xs : List Id) → is_empty xs ≡ false → 0 < length xs
-filled xs h = grind arith
-
-release_up : (v : VersionValue) → is_release v ≡ false → IsAbove v (release_of v)
-release_up v h = above_pre v (release_of v) refl refl refl (grind arith)
 
 first : (v : VersionValue) → IsVersion v → (a b c : ℕ) → a < 2 ^ 64 → b < 2 ^ 64 → c < 2 ^ 64
     → IsVersion (record { major = a; minor = b; patch = c; pre_release = Numeric 0 ∷ []; build = v.build })
@@ -50,16 +37,15 @@ pub prerelease_least : (v : VersionValue) → IsVersion v → (is_release v ≡ 
     → (is_release v ≡ false → has_numeric v.pre_release ≡ false)
     → IsOkAnd (incremented v (codes "prerelease") [] (Value 0)) (IsLeastVersion (IsAbove v))
 prerelease_least v k rises none =
-    pick (λ r. IsOkAnd r (IsLeastVersion (IsAbove v))) (is_release v) (next_patch v >>= pre_step [] (Value 0))
-    (pre_step [] (Value 0) v) (λ h. by_one (λ r. IsOkAnd (r >>= pre_step [] (Value 0)) (IsLeastVersion (IsAbove v))) v.patch
+    cond_both (is_release v) (next_patch v >>= pre_step [] (Value 0)) (pre_step [] (Value 0) v) (λ r. IsOkAnd r (IsLeastVersion (IsAbove v))) (λ h. by_one (λ r. IsOkAnd (r >>= pre_step [] (Value 0)) (IsLeastVersion (IsAbove v))) v.patch
     (λ n. Ok (record v { patch = n; pre_release = [] })) (λ e. omega (arith, e, rises h)) (λ other. (
       first v k v.major v.minor (v.patch + 1) k.major k.minor (omega (arith, k.patch, other)),
       (
         above_patch v (record v { patch = v.patch + 1; pre_release = Numeric 0 ∷ [] }) refl refl (omega arith),
-        λ w this. least_after_release v w (none_left v.pre_release h) this,
+        λ w this. least_after_release v w (grind arith) this,
       ),
     )))
-    (λ h. rw (advance_zero v.pre_release h (none h)) (next_of_pre_release v k (filled v.pre_release h)))
+    (λ h. rw (advance_zero v.pre_release h (none h)) (next_of_pre_release v k (grind arith)))
 
 -- a list that goes on is above itself
 abbrev AboveList : List Id → Result (List Id) Fault → Type 0
@@ -67,25 +53,17 @@ AboveList xs (Ok ys) = slice_cmp id_cmp xs ys ≡ Less
 AboveList xs (Err e) = ⊤
 
 kept_first : (x : Id) (xs : List Id) (r : Result (List Id) Fault) → AboveList xs r → AboveList (x ∷ xs) (r >>= λ list. Ok (x ∷ list))
-kept_first x xs (Ok ys) h = ap (λ r. ordering_then r (slice_cmp id_cmp xs ys)) (tied_itself id_total x) ∙ h
-kept_first x xs (Err e) h = tt
+kept_first x xs r h = grind (arith, tied_itself id_total x)
 
 raise_above : (xs : List Id) → has_numeric xs ≡ true → AboveList xs (raise_last xs)
 raise_above [] h = cc
 raise_above (AlphaNumeric text ∷ xs) h = kept_first (AlphaNumeric text) xs (raise_last xs) (raise_above xs h)
-raise_above (Numeric n ∷ xs) h = pick (AboveList (Numeric n ∷ xs)) (has_numeric xs)
-    (raise_last xs >>= λ list. Ok (Numeric n ∷ list)) (one_more n >>= λ m. Ok (Numeric m ∷ xs))
-    (λ k. kept_first (Numeric n) xs (raise_last xs) (raise_above xs k))
-    (λ k. pick (λ r. AboveList (Numeric n ∷ xs) (r >>= λ m. Ok (Numeric m ∷ xs))) (n == 2 ^ 64 - 1) (Err Overflow) (Ok (n + 1))
-    (λ o. tt) (λ o. less_first n (n + 1) (slice_cmp id_cmp xs xs) (omega arith)))
+raise_above (Numeric n ∷ xs) h =
+    grind (arith, nat_tests, kept_first (Numeric n) xs (raise_last xs), raise_above xs, less_first n (n + 1) (slice_cmp id_cmp xs xs))
 
 advance_above : (xs : List Id) (text : List ℕ) (base : IdentifierBase) → is_empty xs ≡ false → AboveList xs (advance xs text base)
 advance_above [] text base s = cc
-advance_above (x ∷ xs) text base s = pick (AboveList (x ∷ xs)) (has_numeric (x ∷ xs)) (raise_last (x ∷ xs)) _
-    (raise_above (x ∷ xs))
-    (λ h. pick (AboveList (x ∷ xs)) (is_false base && bytes_eq text (list_text (x ∷ xs)))
-    (Err (InvalidIncrementArgument (codes "identifier already exists")))
-    (Ok (x ∷ xs ++ Numeric (first_number base) ∷ [])) (λ e. tt) (λ e. below_more (x ∷ xs) (Numeric (first_number base)) []))
+advance_above (x ∷ xs) text base s = grind (arith, raise_above (x ∷ xs), below_more (x ∷ xs) (Numeric (first_number base)) [])
 
 -- what is returned has the build of the version, and is above it where Up holds
 abbrev Rises : VersionValue → Type 0 → Result VersionValue Fault → Type 0
@@ -96,11 +74,7 @@ module _ (v : VersionValue) (id : List ℕ) (base : IdentifierBase) (Up : Type 0
   -- the pre step of a version that is above by its numbers
   risen : (w : VersionValue) → w.build ≡ v.build → ((pre : List Id) → IsAbove v (record w { pre_release = pre }))
       → Rises v Up (pre_step id base w)
-  risen w e above = by (advance w.pre_release id base)
-    where
-      by : (r : Result (List Id) Fault) → Rises v Up (r >>= λ list. Ok (record w { pre_release = identify id base list }))
-      by (Ok list) = (e, λ up. above (identify id base list))
-      by (Err e) = tt
+  risen w e above = grind arith
 
   -- a number that rises, without the pre step and with it
   rises : (n : ℕ) (f : ℕ → VersionValue) → (f (n + 1)).build ≡ v.build
@@ -135,26 +109,26 @@ module _ (v : VersionValue) (id : List ℕ) (base : IdentifierBase) (Up : Type 0
       by (Err e) h = tt
 
   released : is_release v ≡ false → Rises v Up (Ok (release_of v))
-  released h = (refl, λ up. release_up v h)
+  released h = (refl, λ up. above_pre v (release_of v) refl refl refl (grind arith))
 
   word_rises : (word : List ℕ) → (Up → id ≡ []) → (Up → word ≡ codes "pre" → is_release v ≡ false)
       → Rises v Up (by_word word id base v)
   word_rises word bare some =
       let P = Rises v Up in
-      pick P (bytes_eq word (codes "major")) _ _ (λ h. pick P (v.minor == 0 && (v.patch == 0 && not (is_release v))) _ _
+      cond_both (bytes_eq word (codes "major")) _ _ P (λ h. cond_both (v.minor == 0 && (v.patch == 0 && not (is_release v))) _ _ P
       (λ t. released (not-true (is_release v)
       (and_parts (v.patch == 0) (not (is_release v)) (and_parts (v.minor == 0) (v.patch == 0 && not (is_release v)) t).1).1))
       (λ t. major.0)) (λ h.
-      pick P (bytes_eq word (codes "minor")) _ _ (λ h. pick P (v.patch == 0 && not (is_release v)) _ _
+      cond_both (bytes_eq word (codes "minor")) _ _ P (λ h. cond_both (v.patch == 0 && not (is_release v)) _ _ P
       (λ t. released (not-true (is_release v) (and_parts (v.patch == 0) (not (is_release v)) t).1)) (λ t. minor.0)) (λ h.
-      pick P (bytes_eq word (codes "patch")) _ _ (λ h. pick P (is_release v) _ _ (λ t. patch.0) released) (λ h.
-      pick P (bytes_eq word (codes "premajor")) _ _ (λ h. major.1) (λ h.
-      pick P (bytes_eq word (codes "preminor")) _ _ (λ h. minor.1) (λ h.
-      pick P (bytes_eq word (codes "prepatch")) _ _ (λ h. patch.1) (λ h.
-      pick P (bytes_eq word (codes "prerelease")) _ _ (λ h. pick P (is_release v) _ _ (λ t. patch.1) (λ t. steps bare (λ up. t)))
+      cond_both (bytes_eq word (codes "patch")) _ _ P (λ h. cond_both (is_release v) _ _ P (λ t. patch.0) released) (λ h.
+      cond_both (bytes_eq word (codes "premajor")) _ _ P (λ h. major.1) (λ h.
+      cond_both (bytes_eq word (codes "preminor")) _ _ P (λ h. minor.1) (λ h.
+      cond_both (bytes_eq word (codes "prepatch")) _ _ P (λ h. patch.1) (λ h.
+      cond_both (bytes_eq word (codes "prerelease")) _ _ P (λ h. cond_both (is_release v) _ _ P (λ t. patch.1) (λ t. steps bare (λ up. t)))
       (λ h.
-      pick P (bytes_eq word (codes "pre")) _ _ (λ h. steps bare (λ up. some up ((bytes_eq-Decides word (codes "pre")).0 h))) (λ h.
-      pick P (bytes_eq word (codes "release")) _ _ (λ h. pick P (is_release v) _ _ (λ t. tt) released) (λ h. tt)))))))))
+      cond_both (bytes_eq word (codes "pre")) _ _ P (λ h. steps bare (λ up. some up ((bytes_eq-Decides word (codes "pre")).0 h))) (λ h.
+      cond_both (bytes_eq word (codes "release")) _ _ P (λ h. cond_both (is_release v) _ _ P (λ t. tt) released) (λ h. tt)))))))))
 
   pub increment_rises : (word : List ℕ) (w : VersionValue) → (Up → id ≡ []) → (Up → word ≡ codes "pre" → is_release v ≡ false)
       → incremented v word id base ≡ Ok w → (w.build ≡ v.build) × (Up → IsAbove v w)

@@ -2,15 +2,13 @@
 use Rattle.semver_core.proofs.Common.{AlphaNumeric, arith, nat_tests, Id, List, [], ap, bytes_eq, drop, false, length, ◌==◌, list_text}
 use Rattle.semver_core.proofs.Common.{marked_list, refl, sym, take, true, ℕ, ◌&&◌, ◌++◌, ◌∙◌, ◌∷◌, ◌≡◌}
 use Rattle.semver_core.proofs.Printing.Returns.{marked_first}
-use Rattle.std.proofs.Math.Bool.{and_assoc}
 
 -- ---- what begins with a front is compared behind it
 
 pub compared : (front text more : List ℕ) → bytes_eq text (front ++ more)
     ≡ (bytes_eq (take (length front) text) front && bytes_eq (drop (length front) text) more)
 compared [] text more = refl
-compared (c ∷ front) [] more = refl
-compared (c ∷ front) (d ∷ text) more = rw (and_assoc, compared front text more) refl
+compared (c ∷ front) text more = grind (arith, compared front (drop 1 text) more)
 
 -- ---- a list that is left, with its mark, begins with the mark and a text
 
@@ -24,31 +22,22 @@ module _ (mark rest word : List ℕ) (left others : List Id) (e : left ≡ Alpha
 
   pub other_word : (behind : List ℕ) → behind ≡ drop (length mark) rest → bytes_eq (take (length word) behind) word ≡ false
       → bytes_eq rest (marked_list mark left) ≡ false
-  other_word behind is h = rw (
-    whole,
-    compared mark rest (word ++ marked_list (46 ∷ []) others),
-    ← is,
-    compared word behind (marked_list (46 ∷ []) others),
-    h,
-  ) (grind arith)
+  other_word behind is h =
+      let first = compared mark rest (word ++ marked_list (46 ∷ []) others) in
+      let second = compared word behind (marked_list (46 ∷ []) others) in
+      grind (arith, whole)
 
   pub word_behind : (behind ahead : List ℕ) → bytes_eq (take (length mark) rest) mark ≡ true → behind ≡ drop (length mark) rest
       → bytes_eq (take (length word) behind) word ≡ true → ahead ≡ drop (length word) behind
       → bytes_eq ahead (marked_list (46 ∷ []) others) ≡ bytes_eq rest (marked_list mark left)
-  word_behind behind ahead marks is words goes = sym (rw (
-    whole,
-    compared mark rest (word ++ marked_list (46 ∷ []) others),
-    marks,
-    ← is,
-    compared word behind (marked_list (46 ∷ []) others),
-    words,
-    ← goes,
-  ) refl)
+  word_behind behind ahead marks is words goes =
+      let first = compared mark rest (word ++ marked_list (46 ∷ []) others) in
+      let second = compared word behind (marked_list (46 ∷ []) others) in
+      grind (arith, whole)
 
 -- all of a list is left, or nothing
 pub whole_left : (ids : List Id) → marked_list [] ids ≡ list_text ids
-whole_left [] = refl
-whole_left (x ∷ xs) = refl
+whole_left ids = grind arith
 
 pub none_left : (mark rest : List ℕ) (left : List Id) → left ≡ [] → (length rest == 0) ≡ bytes_eq rest (marked_list mark left)
 none_left mark [] left e = rw e refl

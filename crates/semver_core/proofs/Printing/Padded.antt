@@ -1,8 +1,8 @@
 -- Serves proofs: identifiers of which none begins with a 0 and goes on print as the text that spells them.
-use Rattle.semver_core.proofs.Common.{List, [], Bool, ap, arith, add-one, cases_Bool, drop, eqb-true, false, get_or, id_text}
+use Rattle.semver_core.proofs.Common.{List, [], Bool, ap, arith, add-one, cases_Bool, drop, false, get_or, id_text}
 use Rattle.semver_core.proofs.Common.{identifier_of, is_identifier, is_listed, is_u64_text, listed, length, inl, inr, map, nat_tests}
 use Rattle.semver_core.proofs.Common.{onto_first, pieces, refl, sym, true, ℕ, ◌+◌, ◌<◌, ◌&&◌, ◌||◌, ◌∙◌, ◌∷◌, ◌≡◌, ◌==◌, ◌^◌, and_parts}
-use Rattle.semver_core.proofs.Common.{is_ascii_digit, list_all, digits_value, join_with_byte, drop-cons, suc, ◌≤◌, drop_all}
+use Rattle.semver_core.proofs.Common.{is_ascii_digit, list_all, digits_value, join_with_byte, drop-cons, ◌≤◌, drop_all}
 use Rattle.semver_core.proofs.Text.Runs.{numerals}
 use Rattle.semver_core.specs.Internal.Sources.{begins_padded_run, has_padded, is_padded}
 use Rattle.std.specs.List.{list_any}
@@ -16,15 +16,11 @@ run_prints run h p = elim (cases_Bool (is_u64_text run)) [
   | inl fits ↦
       let both = and_parts (list_all is_ascii_digit run) _ fits in
       let some : 0 < length run = grind (arith, nat_tests, h) in
-      let one : get_or run 0 0 ≡ 48 → length run ≡ 1 = one_zero run some p in
+      let one : get_or run 0 0 ≡ 48 → length run ≡ 1 = λ zero. grind (arith, nat_tests) in
       let small : digits_value 10 run < 2 ^ 64 = grind (arith, nat_tests, both.1) in
       rw fits (decimal-digits_value numerals run both.0 some one small)
   | inr text ↦ rw text refl
 ]
-  where
-    one_zero : (run : List ℕ) → 0 < length run → is_padded run ≡ false → get_or run 0 0 ≡ 48 → length run ≡ 1
-    one_zero [] some p e = absurd (omega arith)
-    one_zero (c ∷ rest) some p e = grind (arith, nat_tests)
 
 runs_print : (runs : List (List ℕ)) → list_all is_identifier runs ≡ true → list_any is_padded runs ≡ false
     → map id_text (map identifier_of runs) ≡ runs
@@ -55,9 +51,6 @@ abbrev behind : List (List ℕ) → List (List ℕ)
 behind [] = []
 behind (run ∷ runs) = runs
 
-onto_padded : (c d : ℕ) (runs : List (List ℕ)) → first_padded (onto_first c (onto_first d runs)) ≡ (c == 48)
-onto_padded c d runs = grind (arith, nat_tests)
-
 onto_behind : (c : ℕ) (runs : List (List ℕ)) → behind (onto_first c runs) ≡ behind runs
 onto_behind c runs = grind arith
 
@@ -66,26 +59,17 @@ any_split runs = grind arith
 
 first_is : (text : List ℕ) → first_padded (pieces text) ≡ begins_padded_run text
 first_is [] = refl
-first_is (c ∷ []) = elim (cases_Bool (c == 46)) [ inl dot ↦ rw dot refl | inr other ↦ rw other refl ]
-first_is (c ∷ d ∷ rest) = elim (cases_Bool (c == 46)) [
-  | inl dot ↦ rw (eqb-true c 46 dot) refl
-  | inr other ↦ elim (cases_Bool (d == 46)) [
-    | inl dot ↦ grind (arith, nat_tests)
-    | inr digit ↦ rw (other, digit) (onto_padded c d (pieces rest) ∙ grind (arith, nat_tests))
-  ]
-]
+first_is (c ∷ []) = grind (arith, nat_tests)
+first_is (c ∷ d ∷ rest) = grind (arith, nat_tests)
 
 behind_is : (text : List ℕ) → list_any is_padded (behind (pieces text)) ≡ behind_padded text
 unfolding behind_padded
 behind_is [] = refl
-behind_is (c ∷ rest) = elim (cases_Bool (c == 46)) [
-  | inl dot ↦ rw dot (any_split (pieces rest) ∙ rw (first_is rest, behind_is rest) refl)
-  | inr other ↦ rw other (ap (list_any is_padded) (onto_behind c (pieces rest)) ∙ behind_is rest)
-]
+behind_is (c ∷ rest) = grind (arith, nat_tests, any_split (pieces rest), first_is rest, behind_is rest, onto_behind c (pieces rest))
 
 has_is : (text : List ℕ) → has_padded text ≡ (begins_padded_run text || behind_padded text)
 unfolding has_padded
-has_is text = any_split (pieces text) ∙ rw (first_is text, behind_is text) refl
+has_is text = grind (arith, first_is text, behind_is text)
 
 pub padded_first : (text : List ℕ) → begins_padded_run text ≡ true → has_padded text ≡ true
 padded_first text h = has_is text ∙ rw h refl
@@ -93,14 +77,11 @@ padded_first text h = has_is text ∙ rw h refl
 pub padded_behind : (text : List ℕ) → begins_padded_run text ≡ false → has_padded text ≡ behind_padded text
 padded_behind text h = has_is text ∙ rw h refl
 
-behind_more : (c : ℕ) (rest : List ℕ) → behind_padded (c ∷ rest) ≡ ((c == 46 && begins_padded_run rest) || behind_padded rest)
-unfolding behind_padded
-behind_more c rest = refl
-
 behind_at : (text : List ℕ) (at : ℕ) → at < length text
     → behind_padded (drop at text)
     ≡ ((get_or text at 0 == 46 && begins_padded_run (drop (at + 1) text)) || behind_padded (drop (at + 1) text))
-behind_at text at lt = rw (add-one at, drop-cons text at 0 lt) (behind_more (get_or text at 0) (drop (suc at) text))
+unfolding behind_padded
+behind_at text at lt = rw (add-one at, drop-cons text at 0 lt) refl
 
 pub behind_here : (text : List ℕ) (at : ℕ) → at < length text → get_or text at 0 ≡ 46 → begins_padded_run (drop (at + 1) text) ≡ true
     → behind_padded (drop at text) ≡ true

@@ -1,12 +1,12 @@
 -- Serves proofs: a printed version reads as itself.
-use Rattle.semver_core.proofs.Common.{id_text, begins, is_identifier_char, AlphaNumeric, Id, Numeric, goes_on, identifier_of}
+use Rattle.semver_core.proofs.Common.{id_text, begins, is_identifier_char, Id, Numeric, goes_on, identifier_of}
 use Rattle.semver_core.proofs.Common.{is_identifier, pieces, IsNumber, Reads, begins_pre_release, no_mark, VersionValue}
-use Rattle.semver_core.proofs.Common.{List, [], ap, append-nil, arith, eqb, false, length, ltb, refl, subst, sym, true, ℕ}
-use Rattle.semver_core.proofs.Common.{◌++◌, ◌<◌, ◌∙◌, ◌∷◌, ◌≡◌, ◌≤◌, nat_tests, and_parts, lt-ltb, is_ascii_digit, first_so}
-use Rattle.semver_core.proofs.Common.{second_so, All, list_all, ◌==◌, digits_value, is_normal, marked_list, version_text}
-use Rattle.semver_core.proofs.Common.{is_u64_text, IsBuild, IsPreRelease, dashed, no_build, no_pre_release, plus, map, not}
-use Rattle.semver_core.proofs.Common.{suc, zero, ◌^◌, not-true, slice_split_at, slice_split_none, decimal, join_with_byte}
-use Rattle.semver_core.proofs.Common.{ltb-true, NoValue, Err, Ok, Result, RefusedOnlyIf, Parses, Failure, Memory, Refused}
+use Rattle.semver_core.proofs.Common.{List, [], ap, append-nil, arith, eqb, false, length, refl, subst, sym, true, ℕ}
+use Rattle.semver_core.proofs.Common.{◌++◌, ◌<◌, ◌∙◌, ◌∷◌, ◌≡◌, ◌≤◌, nat_tests, lt-ltb, is_ascii_digit}
+use Rattle.semver_core.proofs.Common.{All, list_all, ◌==◌, digits_value, is_normal, marked_list, version_text}
+use Rattle.semver_core.proofs.Common.{IsBuild, IsPreRelease, dashed, no_build, no_pre_release, plus, map}
+use Rattle.semver_core.proofs.Common.{suc, zero, ◌^◌, slice_split_at, slice_split_none, decimal, join_with_byte}
+use Rattle.semver_core.proofs.Common.{Err, Ok, Result, Parses}
 use Rattle.semver_core.proofs.Common.{IfOk, append_assoc, ◌*◌, ◌+◌, codes, digits}
 use Rattle.semver_core.specs.{Internal.Readable.{IsReadable, readable}, Printing.RoundTrip.is_readable}
 use Rattle.{semver_core.specs.Text.Identifiers.IsIdentifiers, std.proofs.lemmas.Fmt.{decimal_is_IsNumeral, digits_decimal}}
@@ -14,9 +14,6 @@ use Rattle.{std.proofs.lemmas.Fmt.digits_value-decimal, std.specs.List.slice_ran
 use Rattle.semver_core.proofs.Text.Runs.{all_more, of_digits, numerals}
 
 -- ---- one identifier
-
-digits_chars : (ds : List ℕ) → list_all is_ascii_digit ds ≡ true → list_all is_identifier_char ds ≡ true
-digits_chars ds h = all_more is_ascii_digit is_identifier_char ds (λ c d. grind (arith, nat_tests)) h
 
 pub decimal_digits : (n : ℕ) → n < 2 ^ 64 → list_all is_ascii_digit (decimal n) ≡ true
 decimal_digits n small = digits_decimal numerals n small
@@ -28,7 +25,9 @@ pub decimal_some : (n : ℕ) → n < 2 ^ 64 → 0 < length (decimal n)
 decimal_some n small = (decimal_is_IsNumeral n small).0.0
 
 decimal_run : (n : ℕ) → n < 2 ^ 64 → is_identifier (decimal n) ≡ true
-decimal_run n small = rw (lt-ltb 0 (length (decimal n)) (decimal_some n small), digits_chars (decimal n) (decimal_digits n small)) refl
+decimal_run n small =
+    let chars = all_more is_ascii_digit is_identifier_char (decimal n) (λ c d. grind (arith, nat_tests)) (decimal_digits n small) in
+    rw (lt-ltb 0 (length (decimal n)) (decimal_some n small), chars) refl
 
 decimal_identifier : (n : ℕ) → n < 2 ^ 64 → identifier_of (decimal n) ≡ Numeric n
 decimal_identifier n small =
@@ -37,30 +36,28 @@ decimal_identifier n small =
 
 -- the text of an identifier is a run that spells it
 pub id_run : (id : Id) → is_normal id ≡ true → is_identifier (id_text id) ≡ true
-id_run (Numeric n) h = decimal_run n (ltb-true n (2 ^ 64) h)
-id_run (AlphaNumeric text) h = first_so (is_identifier text) (not (is_u64_text text)) h
+id_run id h = grind (arith, nat_tests, decimal_run)
 
 pub id_spelled : (id : Id) → is_normal id ≡ true → identifier_of (id_text id) ≡ id
-id_spelled (Numeric n) h = decimal_identifier n (ltb-true n (2 ^ 64) h)
-id_spelled (AlphaNumeric text) h = rw (not-true (is_u64_text text) (and_parts (is_identifier text) _ h).1) refl
+id_spelled id h = grind (arith, nat_tests, decimal_identifier)
 
 -- ---- lists joined by dots
 
 chars_no_dot : (run : List ℕ) → list_all is_identifier_char run ≡ true → All (λ c. eqb c 46 ≡ false) run
 chars_no_dot [] h k d lt = absurd (grind arith)
-chars_no_dot (c ∷ run) h zero d lt = not_dot c (first_so (is_identifier_char c) (list_all is_identifier_char run) h)
-chars_no_dot (c ∷ run) h (suc k) d lt = chars_no_dot run (second_so (is_identifier_char c) (list_all is_identifier_char run) h) k d (omega arith)
+chars_no_dot (c ∷ run) h zero d lt = grind (arith, not_dot)
+chars_no_dot (c ∷ run) h (suc k) d lt = grind (arith, chars_no_dot run)
 
 pub run_chars : (run : List ℕ) → is_identifier run ≡ true → list_all is_identifier_char run ≡ true
-run_chars run h = second_so (ltb 0 (length run)) (list_all is_identifier_char run) h
+run_chars run h = grind arith
 
 -- runs joined by dots are cut at the dots into the same runs
 pub pieces_joined : (run : List ℕ) (runs : List (List ℕ)) → list_all is_identifier (run ∷ runs) ≡ true → pieces (join_with_byte 46 (run ∷ runs)) ≡ run ∷ runs
-pieces_joined run [] h = slice_split_none (λ c. c == 46) run (chars_no_dot run (run_chars run (first_so (is_identifier run) true h)))
+pieces_joined run [] h = slice_split_none (λ c. c == 46) run (chars_no_dot run (grind (arith, run_chars)))
 pieces_joined run (next ∷ runs) h =
-    let one = chars_no_dot run (run_chars run (first_so (is_identifier run) (list_all is_identifier (next ∷ runs)) h)) in
+    let one = chars_no_dot run (grind (arith, run_chars)) in
     slice_split_at (λ c. c == 46) run 46 (join_with_byte 46 (next ∷ runs)) one refl
-    ∙ ap (λ l. run ∷ l) (pieces_joined next runs (second_so (is_identifier run) (list_all is_identifier (next ∷ runs)) h))
+    ∙ ap (λ l. run ∷ l) (pieces_joined next runs (grind arith))
 
 pub ids_runs : (ids : List Id) → list_all is_normal ids ≡ true → list_all is_identifier (map id_text ids) ≡ true
 ids_runs [] h = refl
@@ -83,17 +80,14 @@ build_back (id ∷ ids) h = plus _ [] (id ∷ ids) (record { identifiers = joine
 
 -- no identifier list goes on with what a build begins with, and no pre-release begins so
 build_stops : (ids : List Id) → (goes_on (marked_list (43 ∷ []) ids ++ []) ≡ false) × (begins_pre_release (marked_list (43 ∷ []) ids ++ []) ≡ false)
-build_stops [] = (refl, refl)
-build_stops (id ∷ ids) = (refl, refl)
+build_stops ids = (grind arith, grind arith)
 
 pub pre_back : (ids builds : List Id) → list_all is_normal ids ≡ true → IsPreRelease (marked_list (45 ∷ []) ids) (marked_list (43 ∷ []) builds ++ []) ids
 pre_back [] builds h = no_pre_release (marked_list (43 ∷ []) builds ++ []) (build_stops builds).1
 pre_back (id ∷ ids) builds h = dashed _ (marked_list (43 ∷ []) builds ++ []) (id ∷ ids) (record { identifiers = joined_is id ids h; ended = (build_stops builds).0 })
 
 no_digit : (ids builds : List Id) → begins is_ascii_digit (marked_list (45 ∷ []) ids ++ (marked_list (43 ∷ []) builds ++ [])) ≡ false
-no_digit [] [] = refl
-no_digit [] (b ∷ bs) = refl
-no_digit (id ∷ ids) builds = refl
+no_digit ids builds = grind arith
 
 pub number_back : (limit n : ℕ) → limit < 2 ^ 64 → n ≤ limit → IsNumber limit (decimal n) n
 number_back limit n max small =
@@ -132,13 +126,6 @@ pub reread_same : {E : Type 0} (limit : ℕ) (text : List ℕ) (r : Result Versi
     → IfOk r (λ w. Parses limit text w) → IfOk r (λ w. w ≡ v)
 reread_same limit text (Ok w) v only p = only w p.reads
 reread_same limit text (Err x) v only p = tt
-
-pub reread_read : {E : Type 0} (limit : ℕ) (text : List ℕ) (r : Result VersionValue (Failure E)) (v : VersionValue)
-    → Parses limit text v
-    → RefusedOnlyIf {A = VersionValue} {E = E} r (NoValue (Parses limit text)) → RefusedOnlyIf {A = VersionValue} {E = E} r ⊥
-reread_read limit text (Ok w) v h p = tt
-reread_read limit text (Err (Refused x)) v h p = p v h
-reread_read limit text (Err (Memory x)) v h p = tt
 
 -- ---- Serves proofs: what a loop over identifiers has written.
 

@@ -1,18 +1,14 @@
 -- What the bytes of a text are: the first, the last, and all of them; and where a piece of it ends.
+use Rattle.semver_core.proofs.Common.{list_len, space_len, IsTrim, begins, is_whitespace, [], Bool, List, None, ap}
+use Rattle.semver_core.proofs.Common.{append-nil, arith, encode_utf8_all, false, length, not, refl, true, ℕ, ◌&&◌}
+use Rattle.semver_core.proofs.Common.{◌++◌, ◌<◌, ◌||◌, ◌∙◌, ◌∷◌, ◌≡◌, nat_tests, and_from, list_all-append}
+use Rattle.semver_core.proofs.Common.{is_ascii_digit, list_all, ◌==◌}
 use Rattle.semver_core.proofs.Text.SpaceLaw.{space_len-dark}
 use Rattle.semver_core.proofs.Text.Spaces.{space_len-nil}
 use Rattle.semver_core.specs.Internal.Fronts.{begins_byte, begins_identifier, dotted_front, is_wildcard}
-use Rattle.semver_core.specs.Internal.Reading.{list_len}
-use Rattle.semver_core.specs.Internal.Spaces.{space_len}
-use Rattle.semver_core.specs.Text.Characters.{IsTrim, begins, ends, is_whitespace}
-use Rattle.std.proofs.Common.{[], Bool, List, None, ap, append-nil, arith, encode_utf8_all, false, length, nat_lt, not, refl, true, ℕ, ◌&&◌, ◌++◌, ◌<◌}
-use Rattle.std.proofs.Common.{◌||◌, ◌∙◌, ◌∷◌, ◌≡◌}
-use Rattle.std.proofs.lemmas.Bool.Decides.{nat_tests}
-use Rattle.std.proofs.lemmas.Bool.{and_from, and_right}
-use Rattle.std.proofs.lemmas.List.Folds.{list_all-append}
-use Rattle.std.specs.Char.{is_ascii_digit}
-use Rattle.std.specs.List.{list_all}
-use Rattle.std.specs.Prelude.{◌==◌}
+use Rattle.semver_core.specs.Text.Characters.{ends}
+use Rattle.std.proofs.Common.{nat_lt}
+use Rattle.std.proofs.lemmas.Bool.{and_right}
 
 pub begins-on : (p : ℕ → Bool) (u v : List ℕ) → begins p u ≡ true → begins p (u ++ v) ≡ true
 begins-on p u v h = grind arith
@@ -32,8 +28,7 @@ ends-append p (b ∷ c ∷ u) v h = ends-append p (c ∷ u) v h
 
 pub all-end : (p : ℕ → Bool) (u : List ℕ) → 0 < length u → list_all p u ≡ true → ends p u ≡ true
 all-end p [] some h = absurd (omega arith)
-all-end p (b ∷ []) some h = grind arith
-all-end p (b ∷ c ∷ u) some h = grind (arith, all-end p (c ∷ u))
+all-end p (b ∷ u) some h = grind (arith, all-end p u)
 
 pub all-join : (p : ℕ → Bool) (u v : List ℕ) → list_all p u ≡ true → list_all p v ≡ true → list_all p (u ++ v) ≡ true
 all-join p u v h k = list_all-append p u v ∙ and_from (list_all p u) (list_all p v) h k

@@ -1,14 +1,13 @@
 -- Identifiers joined by dots: the longest list at the front of a text.
-use Rattle.semver_core.proofs.Text.Ends.{end_past, is_spelled, nothing_listed, nothing_spelled, runs_taken}
+use Rattle.semver_core.proofs.Common.{list_len, Id, Numeric, is_listed, listed, pieces, [], List, arith, drop}
+use Rattle.semver_core.proofs.Common.{length, length-drop, refl, take, true, ℕ, ◌++◌, ◌+◌, ◌∷◌, ◌≡◌, ◌≤◌, nat_tests}
+use Rattle.semver_core.proofs.Common.{drop_at, take_at}
+use Rattle.semver_core.proofs.Text.Ends.{is_spelled, nothing_listed, nothing_spelled, runs_taken}
 use Rattle.semver_core.proofs.Text.Pieces.{list_len-append, runs_begin, runs_tail}
 use Rattle.semver_core.specs.Internal.Fronts.{begins_identifier, split_list}
-use Rattle.semver_core.specs.Internal.Reading.{list_len}
-use Rattle.semver_core.specs.Text.Identifiers.{Id, IsIdentifiers, Numeric, is_listed, listed, pieces}
-use Rattle.std.proofs.Common.{[], List, arith, drop, length, length-append, length-drop, refl, take, true, ℕ, ◌++◌, ◌+◌, ◌∷◌, ◌≡◌}
-use Rattle.std.proofs.Common.{◌≤◌}
-use Rattle.std.proofs.lemmas.Bool.Decides.{nat_tests}
+use Rattle.semver_core.specs.Text.Identifiers.{IsIdentifiers}
+use Rattle.std.proofs.Common.{length-append}
 use Rattle.std.proofs.lemmas.Grind.{common_steps}
-use Rattle.std.proofs.lemmas.List.{drop_at, take_at}
 
 -- ---- what is read is a list
 

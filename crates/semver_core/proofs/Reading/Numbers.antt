@@ -1,15 +1,14 @@
 -- Numbers: as a whole text, and at the front of one.
-use Rattle.semver_core.proofs.{Reading.Steps.option-cases, Text.Runs.{prefix_ends, prefix_whole}}
+use Rattle.semver_core.proofs.Common.{IsPieceAt, begins, IsNumber, IsWholeNumber, Bool, List, None, Some, arith}
+use Rattle.semver_core.proofs.Common.{drop, false, inl, inr, length, not, refl, take, true, ℕ, ◌&&◌, ◌++◌, ◌-◌, ◌≡◌}
+use Rattle.semver_core.proofs.Common.{◌≤◌, nat_tests, drop_at, take-append-drop, take_at, take_rest, is_ascii_digit}
+use Rattle.semver_core.proofs.Common.{list_all, prefix_len}
+use Rattle.semver_core.proofs.Reading.Steps.{option-cases}
+use Rattle.semver_core.proofs.Text.Runs.{prefix_ends, prefix_whole}
 use Rattle.semver_core.specs.Internal.Fronts.{begins_padded, begins_wildcard, component_front, is_wildcard, number_front, number_of, number_with}
-use Rattle.semver_core.specs.Text.Characters.{IsPieceAt, NoPieceAt, begins}
-use Rattle.semver_core.specs.Text.Numbers.{IsNumber, IsWholeNumber}
-use Rattle.std.proofs.Common.{Bool, List, None, Some, arith, drop, false, inl, inr, length, not, refl, take, true, ℕ, ◌&&◌, ◌++◌, ◌-◌, ◌≡◌, ◌≤◌}
-use Rattle.std.proofs.lemmas.Bool.Decides.{nat_tests}
+use Rattle.semver_core.specs.Text.Characters.{NoPieceAt}
 use Rattle.std.proofs.lemmas.Grind.{common_steps}
 use Rattle.std.proofs.lemmas.List.Sums.{prefix_len-drop_all, prefix_len-drop_no, prefix_len-drop_yes}
-use Rattle.std.proofs.lemmas.List.{drop_at, take-append-drop, take_at, take_rest}
-use Rattle.std.specs.Char.{is_ascii_digit}
-use Rattle.std.specs.List.{list_all, prefix_len}
 use Rattle.std.specs.Prelude.{◌↔◌}
 
 -- ---- a whole text

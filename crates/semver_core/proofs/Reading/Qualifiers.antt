@@ -1,27 +1,19 @@
 -- A pre-release and a build at the front of a text: what is read is written, and what is written is read.
+use Rattle.semver_core.proofs.Common.{list_len, Id, goes_on, listed, IsBuild, IsPreRelease, bare}
+use Rattle.semver_core.proofs.Common.{begins_pre_release, dashed, no_build, no_pre_release, plus, [], List, ap}
+use Rattle.semver_core.proofs.Common.{append-nil, append_assoc, arith, drop, false, inl, inr, length, refl, sym}
+use Rattle.semver_core.proofs.Common.{take, true, ℕ, ◌++◌, ◌∷◌, ◌≡◌, ◌≤◌, nat_tests, cases_Bool, take-append-drop}
 use Rattle.semver_core.proofs.Reading.Bytes.{Quiet, Stop, quiet-before}
 use Rattle.semver_core.proofs.Reading.IdentifierLists.{front-identifiers, written-begins, written-exact, written-le, written-spelled}
 use Rattle.semver_core.proofs.Text.Pieces.{list_ended}
 use Rattle.semver_core.specs.Internal.Fronts.{begins_byte, begins_identifier, build_front, pre_release_front}
-use Rattle.semver_core.specs.Internal.Reading.{list_len}
-use Rattle.semver_core.specs.Text.Characters.{begins}
-use Rattle.semver_core.specs.Text.Identifiers.{Id, IsIdentifiers, goes_on, listed}
-use Rattle.semver_core.specs.Text.VersionText.{IsBuild, IsPreRelease, bare, begins_pre_release, dashed, no_build, no_pre_release, plus}
-use Rattle.std.proofs.Common.{[], List, ap, append-nil, append_assoc, arith, drop, false, inl, inr, length, length-append, refl, sym, take, true, ℕ}
-use Rattle.std.proofs.Common.{◌++◌, ◌∷◌, ◌≡◌, ◌≤◌}
-use Rattle.std.proofs.lemmas.Bool.Decides.{nat_tests}
-use Rattle.std.proofs.lemmas.Bool.{cases_Bool}
-use Rattle.std.proofs.lemmas.List.{take-append-drop}
-use Rattle.std.specs.Char.{is_ascii_digit}
+use Rattle.std.proofs.Common.{length-append}
 
 -- ---- what is read is written
 
--- no run of digits goes on behind the list at the front
-ended-digit : (text : List ℕ) → goes_on text ≡ false → begins is_ascii_digit text ≡ false
-ended-digit text k = grind (arith, nat_tests)
-
 ended-quiet : (front text : List ℕ) → Quiet front (drop (list_len text) text)
-ended-quiet front text = let r = drop (list_len text) text in quiet-before front r (ended-digit r (list_ended text))
+ended-quiet front text =
+    let stop = list_ended text in quiet-before front (drop (list_len text) text) (grind (arith, nat_tests))
 
 pub record PreRead (x p left read : List ℕ) : Type 0 where
   pub split : x ≡ p ++ left
@@ -32,26 +24,8 @@ nothing-read : (x : List ℕ) → PreRead x [] x []
 unfolding listed
 nothing-read x = record { split = refl; is = λ b g h. no_pre_release b h; stop = refl }
 
-dash-read : (y : List ℕ) → begins_identifier y ≡ true
-    → PreRead (45 ∷ y) (45 ∷ take (list_len y) y) (drop (list_len y) y) (take (list_len y) y)
-dash-read y h = record {
-  split = ap (λ (t : List ℕ). 45 ∷ t) (sym (take-append-drop (list_len y) y));
-  is = λ b g k. dashed (take (list_len y) y) b (listed (take (list_len y) y))
-      (record { identifiers = front-identifiers y h; ended = g });
-  stop = ended-quiet (45 ∷ take (list_len y) y) y;
-}
-
 begins-take : (n : ℕ) (x : List ℕ) → begins_byte 45 x ≡ false → begins_byte 45 (take n x) ≡ false
 begins-take n x h = grind arith
-
-bare-read : (x : List ℕ) → begins_byte 45 x ≡ false → begins_identifier x ≡ true
-    → PreRead x (take (list_len x) x) (drop (list_len x) x) (take (list_len x) x)
-bare-read x d h = record {
-  split = sym (take-append-drop (list_len x) x);
-  is = λ b g k. bare (take (list_len x) x) b (listed (take (list_len x) x))
-      (record { identifiers = front-identifiers x h; ended = g }) (begins-take (list_len x) x d);
-  stop = ended-quiet (take (list_len x) x) x;
-}
 
 pub byte-begins : (c : ℕ) (x : List ℕ) → begins_byte c x ≡ true → x ≡ c ∷ drop 1 x
 byte-begins c x h = grind arith
@@ -60,11 +34,25 @@ pub pre-read : (x : List ℕ) → (p : List ℕ) × PreRead x p (pre_release_fro
 unfolding pre_release_front
 pre-read x = elim (cases_Bool (begins_byte 45 x)) [
   | inl dash ↦ let y = drop 1 x in elim (cases_Bool (begins_identifier y)) [
-    | inl some ↦ rw (dash, some, byte-begins 45 x dash) (45 ∷ take (list_len y) y, dash-read y some)
+    | inl some ↦ rw (dash, some, byte-begins 45 x dash) (
+      45 ∷ take (list_len y) y,
+      record {
+        split = ap (λ (t : List ℕ). 45 ∷ t) (sym (take-append-drop (list_len y) y));
+        is = λ b g k. dashed _ b _ (record { identifiers = front-identifiers y some; ended = g });
+        stop = ended-quiet (45 ∷ take (list_len y) y) y;
+      },
+    )
     | inr none ↦ rw (dash, none) ([], nothing-read x)
   ]
   | inr other ↦ elim (cases_Bool (begins_identifier x)) [
-    | inl some ↦ rw (other, some) (take (list_len x) x, bare-read x other some)
+    | inl some ↦ rw (other, some) (
+      take (list_len x) x,
+      record {
+        split = sym (take-append-drop (list_len x) x);
+        is = λ b g k. bare _ b _ (record { identifiers = front-identifiers x some; ended = g }) (begins-take (list_len x) x other);
+        stop = ended-quiet (take (list_len x) x) x;
+      },
+    )
     | inr none ↦ rw (other, none) ([], nothing-read x)
   ]
 ]
@@ -80,22 +68,20 @@ nothing-built : (y : List ℕ) → BuildRead y [] y []
 unfolding listed
 nothing-built y = record { split = refl; is = no_build [] refl; goes = refl; pre = refl; stop = refl }
 
-plus-read : (z : List ℕ) → begins_identifier z ≡ true
-    → BuildRead (43 ∷ z) (43 ∷ take (list_len z) z) (drop (list_len z) z) (take (list_len z) z)
-plus-read z h = record {
-  split = ap (λ (t : List ℕ). 43 ∷ t) (sym (take-append-drop (list_len z) z));
-  is = plus (take (list_len z) z) [] (listed (take (list_len z) z))
-      (record { identifiers = front-identifiers z h; ended = refl });
-  goes = refl;
-  pre = refl;
-  stop = ended-quiet (43 ∷ take (list_len z) z) z;
-}
-
 pub build-read : (y : List ℕ) → (b : List ℕ) × BuildRead y b (build_front y).1 (build_front y).0
 unfolding build_front
 build-read y = elim (cases_Bool (begins_byte 43 y)) [
   | inl mark ↦ let z = drop 1 y in elim (cases_Bool (begins_identifier z)) [
-    | inl some ↦ rw (mark, some, byte-begins 43 y mark) (43 ∷ take (list_len z) z, plus-read z some)
+    | inl some ↦ rw (mark, some, byte-begins 43 y mark) (
+      43 ∷ take (list_len z) z,
+      record {
+        split = ap (λ (t : List ℕ). 43 ∷ t) (sym (take-append-drop (list_len z) z));
+        is = plus _ [] _ (record { identifiers = front-identifiers z some; ended = refl });
+        goes = refl;
+        pre = refl;
+        stop = ended-quiet (43 ∷ take (list_len z) z) z;
+      },
+    )
     | inr none ↦ rw (mark, none) ([], nothing-built y)
   ]
   | inr other ↦ rw other ([], nothing-built y)
@@ -128,17 +114,14 @@ pre-written p y b l (dashed t r list h) =
       exact = λ run d i. record
           { text = t; is = rw begins (written-exact t y list h.identifiers run); list = written-spelled t list h.identifiers };
     }
-pre-written p y b l (bare t r list h d) = undashed t h.identifiers d
-  where
-    undashed : (t : List ℕ) → IsIdentifiers t list → begins_byte 45 t ≡ false → PreWritten t y list
-    undashed [] k e = cc k.runs
-    undashed (c ∷ t) k e = record {
-      le = rw (written-begins (c ∷ t) y list k, e) (written-le (c ∷ t) y list k);
-      exact = λ run d i. record {
-        text = c ∷ t;
-        is = rw (written-begins (c ∷ t) y list k, e) (written-exact (c ∷ t) y list k run);
-        list = written-spelled (c ∷ t) list k;
-      };
+pre-written p y b l (bare t r list h d) =
+    let begins = written-begins t y list h.identifiers in
+    let some = written-begins t [] list h.identifiers in
+    let plain : begins_byte 45 (t ++ y) ≡ false = grind (arith, append-nil) in
+    record {
+      le = rw (begins, plain) (written-le t y list h.identifiers);
+      exact = λ run d i. record
+          { text = t; is = rw (begins, plain) (written-exact t y list h.identifiers run); list = written-spelled t list h.identifiers };
     }
 pre-written p y b l (no_pre_release r h) = grind (arith, pre_release_front-le)
 

@@ -66,8 +66,7 @@ pub ruleset passing = (passed_none, passed_more, passed_room, passed_stop, passe
 
 pub no_front : (bytes : List ℕ) → length bytes ≡ 0 → [] ≡ take (utf8_valid_len bytes) bytes
 unfolding utf8_valid_len
-no_front [] e = refl
-no_front (x ∷ xs) e = absurd (omega (arith, e))
+no_front bytes e = grind arith
 
 pub front_is : (bytes valid invalid rest : List ℕ) → bytes ≡ valid ++ (invalid ++ rest) → length valid ≡ utf8_valid_len bytes
     → valid ≡ take (utf8_valid_len bytes) bytes
@@ -75,7 +74,6 @@ front_is bytes valid invalid rest parts size =
     sym (ap (take (utf8_valid_len bytes)) parts ∙ take_at valid (invalid ++ rest) (utf8_valid_len bytes) size)
 
 pub front_is_all : (bytes front : List ℕ) → front ≡ take (utf8_valid_len bytes) bytes → IsUtf8 bytes → front ≡ bytes
-front_is_all bytes front e u =
-    e ∙ ap (λ n. take n bytes) (utf8_valid_len-IsUtf8 bytes u) ∙ take_all (length bytes) bytes (omega arith)
+front_is_all bytes front e u = grind (arith, utf8_valid_len-IsUtf8, take_all)
 
 pub ruleset text_fronts = (no_front, front_is, front_is_all)

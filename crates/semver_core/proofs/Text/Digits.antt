@@ -17,9 +17,7 @@ digit_value-is c h = let e = digit_value_digit c (grind (arith, nat_tests)) in o
 pub digits_over : (limit : ℕ) (v k : ℕ) (xs : List ℕ) (i : ℕ) → i < length xs → is_ascii_digit (get_or xs i 0) ≡ true → limit < v * 10 + (get_or xs i 0 - 48)
     → digits_from limit v k (drop i xs) ≡ None
 unfolding digits_from
-digits_over limit v k xs i lt d big =
-    let over : ltb limit (v * 10 + (get_or xs i 0 - 48)) ≡ true = grind (arith, nat_tests) in
-    rw (drop-cons xs i 0, d, digit_value-is (get_or xs i 0) d, over) refl
+digits_over limit v k xs i lt d big = grind (arith, nat_tests, drop-cons, digit_value-is)
 
 pub digits_stop : (limit : ℕ) (v k : ℕ) (xs : List ℕ) (i : ℕ) → i < length xs → is_ascii_digit (get_or xs i 0) ≡ false
     → digits_from limit v k (drop i xs) ≡ digits_end v k
@@ -33,9 +31,7 @@ digits_past limit v k xs i le = rw (drop_all i xs le) refl
 pub digits_one_more : (limit : ℕ) (v k : ℕ) (xs : List ℕ) (i : ℕ) → i < length xs → is_ascii_digit (get_or xs i 0) ≡ true → v * 10 + (get_or xs i 0 - 48) ≤ limit
     → digits_from limit v k (drop i xs) ≡ digits_from limit (v * 10 + (get_or xs i 0 - 48)) (k + 1) (drop (i + 1) xs)
 unfolding digits_from
-digits_one_more limit v k xs i lt d small =
-    let fits : ltb limit (v * 10 + (get_or xs i 0 - 48)) ≡ false = grind (arith, nat_tests) in
-    rw (drop-cons xs i 0, add-one i, d, digit_value-is (get_or xs i 0) d, fits) refl
+digits_one_more limit v k xs i lt d small = grind (arith, nat_tests, drop-cons, digit_value-is, add-one i)
 
 pub digit_other : (c : ℕ) → is_ascii_digit c ≡ true → (c == 10) ≡ false
 digit_other c d = grind (arith, nat_tests)
@@ -65,15 +61,11 @@ pub ruleset places = (begins_before_end, take_rest)
 
 pub number_found : (limit : ℕ) (text : List ℕ) (at : ℕ) (r : Option (ℕ × ℕ)) → r ≡ number_at limit text at
     → IfSome r (λ found. IsPieceAt (λ digits rest. IsWholeNumber limit digits rest found.0) text at found.1)
-number_found limit text at None e = tt
-number_found limit text at (Some found) e =
-    let s = number_sound limit text at found.0 found.1 (sym e) in
-    record { piece = s.0; divided = s.1; is = s.2 }
+number_found limit text at r e = grind (arith, number_sound)
 
 pub number_none : (limit : ℕ) (text : List ℕ) (at : ℕ) (r : Option (ℕ × ℕ)) → r ≡ number_at limit text at
     → IfNone r ((n : ℕ) → NoPieceAt (λ digits rest. IsWholeNumber limit digits rest n) text at)
-number_none limit text at None e = λ n digits rest d w. cc (e, (number_complete limit text at n digits rest d w).0)
-number_none limit text at (Some found) e = tt
+number_none limit text at r e = grind (arith, number_complete)
 
 -- ---- A run that is read in one pass.
 
@@ -143,13 +135,6 @@ scan_stops text start r e =
     let n = prefix_len is_identifier_char (drop start text) in
     rw (ap (λ p. drop p text) (scan_end text start r e).0 ∙ sym (drop-drop n start text)) (prefix_ends is_identifier_char (drop start text))
 
--- the end of a run, whatever it writes
-pub run_place : (text : List ℕ) (start end : ℕ) → (end, None) ≡ run_from None start (drop start text) → start ≤ length text
-    → (end ≡ start + prefix_len is_identifier_char (drop start text)) × (end ≤ length text)
-run_place text start end e le =
-    let is = ap (λ (q : ℕ × Option ℕ). q.0) (e ∙ run_found None start (drop start text)) in
-    (is, omega (arith, is, le, prefix_len-le-length is_identifier_char (drop start text), length-drop start text))
-
 pub scan_number : (run : List ℕ) (v : ℕ) → Some v ≡ number_of_run (Some 0) run → identifier_of run ≡ Numeric v
 scan_number run v e = sym (id_spelled run) ∙ ap (λ n. id_by n run) (sym e)
 
@@ -171,3 +156,5 @@ pub ruleset grown_either = (grown_small, grown_big)
 pub ruleset run_ends = (run_step, run_stop, run_past)
 
 pub ruleset scanned = (scan_number, scan_text)
+
+pub ruleset run_facts = (scan_end, scan_fits, scan_number, scan_text)

@@ -6,7 +6,7 @@ use Rattle.semver_core.proofs.Common.{list_all, list_from, list_len, Parses, map
 use Rattle.semver_core.proofs.Common.{length-map, length-slice_split, nat_tests, ◌||◌, ◌&&◌}
 use Rattle.semver_core.proofs.Common.{append-nil, cases_Bool, eqb-true, inl, inr, sym, take_all, ◌∙◌}
 use Rattle.semver_core.proofs.Text.Pieces.{begins_taken, begun_runs, list_len-append, runs_tail, taken_runs}
-use Rattle.semver_core.proofs.Text.{Listed.listed_begins, Runs.list_len_stop}
+use Rattle.semver_core.proofs.Text.{Listed.{listed_begins, listed_none}, Runs.list_len_stop}
 
 -- the loop
 pub end_step : (xs : List ℕ) (i : ℕ) → i < length xs → goes_on (drop i xs) ≡ true
@@ -15,10 +15,6 @@ unfolding list_len
 end_step xs i lt h =
     let more = rw (drop-cons xs i 0 lt) at h in
     rw (drop-cons xs i 0 lt, add-one i, more) refl
-
-pub end_past : (xs : List ℕ) (i : ℕ) → length xs ≤ i → list_len (drop i xs) ≡ 0
-unfolding list_len
-end_past xs i le = rw (drop_all i xs le) refl
 
 pub ruleset list_ends = (end_step, list_len_stop)
 
@@ -41,13 +37,11 @@ runs_taken t h = begun_runs (take (list_len t) t) (begins_taken t h) (taken_runs
 
 spelled : (s : List ℕ) → list_all is_identifier (pieces s) ≡ true → listed s ≡ map identifier_of (pieces s)
 unfolding listed
-spelled [] h = cc
-spelled (c ∷ rest) h = refl
+spelled s h = grind arith
 
 pub is_spelled : (s : List ℕ) → list_all is_identifier (pieces s) ≡ true → is_listed s ≡ true
 unfolding is_listed
-is_spelled [] h = cc
-is_spelled (c ∷ rest) h = h
+is_spelled s h = grind arith
 
 pub cut_listed : (text : List ℕ) (start end : ℕ) → end ≡ start + list_len (drop start text)
     → begins is_identifier_char (drop start text) ≡ true → is_listed (take (end - start) (drop start text)) ≡ true
@@ -70,8 +64,7 @@ some_found text at start found h e =
     omega (arith, ap length is, length-map (pieces list) identifier_of, length-slice_split (λ c. c == 46) list)
 
 pub nothing_spelled : listed [] ≡ []
-unfolding listed
-nothing_spelled = refl
+nothing_spelled = listed_none [] refl
 
 pub nothing_listed : is_listed [] ≡ true
 unfolding is_listed
@@ -82,11 +75,7 @@ pub ruleset lists_cut = (cut_listed, cut_found, take_rest, nothing_spelled, noth
 -- a whole text spells a list
 listed_runs : (text : List ℕ) → 0 < length text → is_listed text ≡ list_all is_identifier (pieces text)
 unfolding is_listed
-listed_runs [] h = absurd (omega arith)
-listed_runs (c ∷ rest) h = refl
-
-begins_some : (text : List ℕ) → begins is_identifier_char text ≡ true → 0 < length text
-begins_some text h = grind arith
+listed_runs text h = grind arith
 
 whole_spelled : (text : List ℕ) → begins is_identifier_char text ≡ true → list_len text ≡ length text → is_listed text ≡ true
 whole_spelled text h e = rw (ap (λ n. take n text) e ∙ take_all (length text) text (omega arith)) at (is_spelled (take (list_len text) text) (runs_taken text h))
@@ -99,16 +88,11 @@ pub not_begun : (text : List ℕ) → 0 < length text → begins is_identifier_c
 not_begun text some h = grind (arith, listed_begins)
 
 pub whole_listed : (text : List ℕ) → begins is_identifier_char text ≡ true → (list_len text == length text) ≡ is_listed text
-whole_listed text h = elim (cases_Bool (is_listed text)) [
-  | inl spelled ↦
-      let runs = sym (listed_runs text (begins_some text h)) ∙ spelled in
-      let all = rw (append-nil text) at (list_len-append text [] (runs_tail (pieces text) runs)) in
-      rw (all, list_len_stop [] refl, spelled) (grind (arith, nat_tests))
-  | inr other ↦ elim (cases_Bool (list_len text == length text)) [
-    | inl same ↦ cc (rw other at (whole_spelled text h (eqb-true (list_len text) (length text) same)))
-    | inr less ↦ less ∙ sym other
-  ]
-]
+whole_listed text h =
+    let runs = listed_runs text (grind arith) in
+    grind (arith, nat_tests, whole_spelled text h, append-nil, list_len-append text [], list_len_stop [] refl, runs_tail)
+
+pub ruleset whole_lists = (none_listed, not_begun, whole_listed)
 
 -- ---- the clauses of the readers
 

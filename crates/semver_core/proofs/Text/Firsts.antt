@@ -4,11 +4,11 @@ use Rattle.semver_core.proofs.Common.{Option, Some, [], arith, drop, eqb, false,
 use Rattle.semver_core.proofs.Common.{ℕ, ◌+◌, ◌<◌, ◌∙◌, ◌∷◌, ◌≡◌, ◌≤◌, nat_tests, cases_Bool, eqb-true, drop-drop, slice_cmp}
 use Rattle.semver_core.proofs.Common.{list_all, onto_first, ◌==◌, Equal, Greater, Less, number_of_run, run_from, map}
 use Rattle.semver_core.proofs.Common.{AlphaNumeric, begins, is_identifier_char, is_normal, is_u64_text, ltb, not, take_all}
-use Rattle.semver_core.proofs.Common.{◌&&◌}
+use Rattle.semver_core.proofs.Common.{◌&&◌, take_rest}
 use Rattle.std.specs.Option.{is_none}
 use Rattle.semver_core.proofs.Text.Runs.{drop_one, take_one}
 use Rattle.semver_core.{specs.Internal.CommonReading.{id_by, run_len}, proofs.Text.Digits.{id_spelled, scan_end, scan_fits}}
-use Rattle.semver_core.proofs.Text.{Listed.{listed_none, listed_some}, Pieces.{first_char, runs_tail, tail_onto, tail_runs}}
+use Rattle.semver_core.proofs.Text.{Listed.{front_utf8, listed_begins, listed_none, listed_some}, Pieces.{first_char, runs_tail, tail_onto, tail_runs}}
 
 -- what stands behind the first run and its dot
 abbrev pub others : List ℕ → List ℕ
@@ -19,8 +19,7 @@ later [] = []
 later (c ∷ rest) = pieces (c ∷ rest)
 
 later_some : (text : List ℕ) → list_all is_identifier (pieces text) ≡ true → later text ≡ pieces text
-later_some [] h = cc
-later_some (c ∷ rest) h = refl
+later_some text h = grind arith
 
 pub pieces_split : (text : List ℕ) → tail_runs (pieces text) ≡ true
     → (pieces text ≡ take (run_len text) text ∷ later (others text)) × (list_all is_identifier (later (others text)) ≡ true)
@@ -41,13 +40,11 @@ pieces_split (c ∷ rest) h = elim (cases_Bool (eqb c 46)) [
 
 listed_later : (text : List ℕ) → listed text ≡ map identifier_of (later text)
 unfolding listed
-listed_later [] = refl
-listed_later (c ∷ rest) = refl
+listed_later text = grind arith
 
 is_listed_later : (text : List ℕ) → is_listed text ≡ list_all is_identifier (later text)
 unfolding is_listed
-is_listed_later [] = refl
-is_listed_later (c ∷ rest) = refl
+is_listed_later text = grind arith
 
 pub listed_first : (text : List ℕ) → is_listed text ≡ true → 0 < length text
     → (listed text ≡ identifier_of (take (run_len text) text) ∷ listed (others text)) × (is_listed (others text) ≡ true)
@@ -74,7 +71,7 @@ pub ids_others : (text : List ℕ) (n : ℕ) → n ≡ run_len text → is_liste
     → is_listed (drop 1 (drop n text)) ≡ true
 ids_others text n e h some = rw (e, drop-drop 1 (run_len text) text) (listed_first text h some).1
 
-pub ruleset firsts = (ids_first, ids_others)
+pub ruleset firsts = (ids_first, ids_others, front_end, front_number, front_fits, front_utf8, listed_begins, take_rest)
 
 -- ---- the order of two texts
 
@@ -89,7 +86,7 @@ none_spelled : (text : List ℕ) → (length text == 0) ≡ true → listed text
 none_spelled text none = listed_none text (eqb-true (length text) 0 none)
 
 pub both_end : (a b : List ℕ) → (length a == 0) ≡ true → (length b == 0) ≡ true → Equal ≡ slice_cmp id_cmp (listed a) (listed b)
-both_end a b x y = rw (none_spelled a x, none_spelled b y) refl
+both_end a b x y = grind (arith, none_spelled)
 
 pub first_ends : (a b : List ℕ) → (length a == 0) ≡ true → (length b == 0) ≡ false → Less ≡ slice_cmp id_cmp (listed a) (listed b)
 first_ends a b x y = let s = spelled_some b y in rw (none_spelled a x, s.1.1) refl
@@ -120,12 +117,6 @@ pub run_normal : (text : List ℕ) (r : ℕ × Option ℕ) → begins is_identif
 run_normal [] r begin e = cc begin
 run_normal (c ∷ rest) r begin e =
     let text = c ∷ rest in
-    let some : ltb 0 (length text) ≡ true = grind (arith, nat_tests) in
-    elim (cases_Bool (list_all is_identifier_char text)) [
-      | inl whole ↦
-          let len : run_len text ≡ length text = eqb-true (run_len text) (length text) (whole_run text ∙ whole) in
-          let run : take (run_len text) text ≡ text = rw len (take_all (length text) text (omega arith)) in
-          let number = written (number_of_run (Some 0) text) text (id_spelled text) in
-          grind (arith, front_end text r e, front_number text r e)
-      | inr part ↦ rw (front_end text r e, whole_run text, part, some) refl
-    ]
+    let number = written (number_of_run (Some 0) text) text (id_spelled text) in
+    let all = take_all (length text) text (omega arith) in
+    grind (arith, nat_tests, whole_run text, front_end text r e, front_number text r e)

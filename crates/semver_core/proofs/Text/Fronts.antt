@@ -1,12 +1,12 @@
 -- The version that a text begins with is that of the text up to the place behind it.
-use Rattle.semver_core.proofs.Common.{qualified, triple_at, begins, Id, IsLongestIdentifiers, goes_on, pieces, IsNumber}
+use Rattle.semver_core.proofs.Common.{qualified, triple_at, begins, Id, IsLongestIdentifiers, pieces, IsNumber}
 use Rattle.semver_core.proofs.Common.{IsWholeNumber, begins_pre_release, no_mark, VersionValue, List, None, Some, [], ap}
 use Rattle.semver_core.proofs.Common.{append-nil, append_assoc, arith, drop, false, length, refl, subst, sym, take, true, ℕ}
 use Rattle.semver_core.proofs.Common.{◌++◌, ◌∙◌, ◌∷◌, ◌≡◌, ◌≤◌, nat_tests, take-append-drop, is_ascii_digit, list_all}
 use Rattle.semver_core.proofs.Common.{list_all-append, small_len, lists_at, IsCommon, IsBuild, IsMark, IsPreRelease, bare}
 use Rattle.semver_core.proofs.Common.{dashed, no_build, no_pre_release, plus, small_mark, NoValue, IsAfterBlank, IsBlank}
 use Rattle.semver_core.proofs.Common.{is_identifier_char, Reads, Option, ◌<◌, drop-cons, drop_all, ◌==◌, common_of}
-use Rattle.semver_core.proofs.Common.{HasOneReading, mark_len, begins_build, release_value, IfSome, IfNone, get_or}
+use Rattle.semver_core.proofs.Common.{HasOneReading, mark_len, release_value, IfSome, IfNone, get_or}
 use Rattle.semver_core.specs.{Internal.CommonReading.{is_plain, at_end, whole_at}, Text.Common.IsCommonFront}
 use Rattle.{std.proofs.lemmas.List.append_cancel_right, semver_core.proofs.Text.Listed.plain_runs}
 use Rattle.semver_core.proofs.Text.{Pieces.runs_tail, Runs.{all_more, begins_less}, Texts.{divided_at, number_begins, read_at}}
@@ -14,12 +14,8 @@ use Rattle.semver_core.proofs.Text.Texts.{rest_of, bind_some, none_build, loose_
 
 -- ---- The fast reader's answer is the common text's version.
 
-at_end_some : {A : Type 0} (rest : List ℕ) (x y : A) → at_end rest x ≡ Some y → (rest ≡ []) × (x ≡ y)
-at_end_some rest x y e = grind arith
-
 pub small_is : (text : List ℕ) → IsMark (take (small_len text) text) × (take (small_len text) text ≡ 86 ∷ [] → ⊥)
-small_is [] = (no_mark, λ f. cc f)
-small_is (c ∷ rest) = grind (arith, nat_tests, no_mark, small_mark)
+small_is text = grind (arith, nat_tests, no_mark, small_mark)
 
 pub nothing_blank : IsBlank []
 nothing_blank = record { characters = []; each = refl; spelled = refl }
@@ -37,15 +33,12 @@ front_divided limit text t e =
 pub common_sound : (limit : ℕ) (text : List ℕ) (v : VersionValue) → common_of limit text ≡ Some v → IsCommon limit text v
 common_sound limit text v e =
     let found = bind_some (triple_at limit text (small_len text)) _ v e in
-    let ended = at_end_some (rest_of text found.0) (qualified text found.0) v found.2 in
+    let ended : (rest_of text found.0 ≡ []) × (qualified text found.0 ≡ v) = grind arith in
     let d = front_divided limit text found.0 found.1 in
     rw (← ended.1) (d.0, d.1, d.2, d.3 ∙ ended.0)
 
-no_small : (D : List ℕ) → begins is_ascii_digit D ≡ true → small_len D ≡ 0
-no_small D h = grind (arith, nat_tests)
-
 pub past_small : (text mark D : List ℕ) → IsMark mark → (mark ≡ 86 ∷ [] → ⊥) → text ≡ mark ++ D → begins is_ascii_digit D ≡ true → drop (small_len text) text ≡ D
-past_small text mark D is s e h = grind (arith, no_small)
+past_small text mark D is s e h = grind (arith, nat_tests)
 
 -- the version that stands at the front, behind `v` or nothing, is found there
 front_at : (limit : ℕ) (text : List ℕ) (v : VersionValue) (r : Reads limit text v) → (r.mark ≡ 86 ∷ [] → ⊥) → r.blank ≡ []
@@ -85,8 +78,7 @@ whole_of text major minor patch l =
 
 pub lists_found : (text : List ℕ) (major minor patch at end : ℕ) (pre build : List Id) → (pre, build, end) ≡ lists_at text at → length text ≤ end
     → whole_at text (major, minor, patch, at) ≡ Some (record { major = major; minor = minor; patch = patch; pre_release = pre; build = build })
-lists_found text major minor patch at end pre build e le =
-    ap (whole_of text major minor patch) (sym e) ∙ rw (drop_all end text le) refl
+lists_found text major minor patch at end pre build e le = grind (arith, drop_all)
 
 pub lists_left : (text : List ℕ) (major minor patch at end : ℕ) (pre build : List Id) → (pre, build, end) ≡ lists_at text at → end < length text
     → whole_at text (major, minor, patch, at) ≡ None
@@ -112,17 +104,12 @@ pub release_read : (limit : ℕ) (text : List ℕ) (major minor patch at : ℕ) 
     → Reads limit text v
 release_read limit text major minor patch at v r le e = grind (arith, drop_all, none_pre, none_build)
 
--- neither a pre-release nor a build begins with such a byte
-nothing_at : (text : List ℕ) (at : ℕ) (r : List ℕ) → drop at text ≡ r → begins_pre_release r ≡ false → begins_build r ≡ false → lists_at text at ≡ ([], [], at)
-nothing_at text at r e pre meta = rw (none_pre text at r e pre, none_build text at r e meta) refl
-
 pub none_begins : (text : List ℕ) (at : ℕ) → at < length text → is_identifier_char (get_or text at 0) ≡ false → (get_or text at 0 == 43) ≡ false
     → lists_at text at ≡ ([], [], at)
-none_begins text at inside h k =
-    nothing_at text at _ (drop-cons text at 0 inside) (grind (arith, nat_tests)) (grind arith)
+none_begins text at inside h k = grind (arith, nat_tests, drop-cons, none_pre, none_build)
 
 pub none_past : (text : List ℕ) (at : ℕ) → length text ≤ at → lists_at text at ≡ ([], [], at)
-none_past text at past = nothing_at text at [] (drop_all at text past) refl refl
+none_past text at past = grind (arith, drop_all, none_pre, none_build)
 
 pub ruleset no_lists = (none_past, none_begins)
 
@@ -134,38 +121,18 @@ number_kept : (small large : ℕ) (digits : List ℕ) (n : ℕ) → small ≤ la
 number_kept small large digits n le h = grind arith
 
 pub keeps_reading : (text : List ℕ) (small large : ℕ) (v : VersionValue) → small ≤ large → Reads small text v → Reads large text v
-keeps_reading text small large v le h = record {
-  mark = h.mark;
-  blank = h.blank;
-  major = h.major;
-  minor = h.minor;
-  patch = h.patch;
-  pre_release = h.pre_release;
-  build = h.build;
-  rest = h.rest;
-  divided = h.divided;
-  mark_is = h.mark_is;
-  blank_is = h.blank_is;
-  major_is = number_kept small large _ _ le h.major_is;
-  minor_is = number_kept small large _ _ le h.minor_is;
-  patch_is = record { number = number_kept small large _ _ le h.patch_is.number; ended = h.patch_is.ended };
-  pre_release_is = h.pre_release_is;
-  build_is = h.build_is;
-}
+keeps_reading text small large v le h = grind (arith, number_kept small large)
 
 pub keeps_version : (text : List ℕ) → HasOneReading text → (small large : ℕ) (v w : VersionValue) → small ≤ large → Reads small text v → Reads large text w → w ≡ v
 keeps_version text one small large v w le h k = one large w v k (keeps_reading text small large v le h)
 
 -- ---- a text without what follows it
 
-goes_less : (a r : List ℕ) → goes_on (a ++ r) ≡ false → goes_on a ≡ false
-goes_less a r h = grind arith
-
 pre_less : (a r : List ℕ) → begins_pre_release (a ++ r) ≡ false → begins_pre_release a ≡ false
 pre_less a r h = grind (arith, nat_tests)
 
 longest_less : (text a r : List ℕ) (ids : List Id) → IsLongestIdentifiers text (a ++ r) ids → IsLongestIdentifiers text a ids
-longest_less text a r ids l = record { identifiers = l.identifiers; ended = goes_less a r l.ended }
+longest_less text a r ids l = record { identifiers = l.identifiers; ended = (let e = l.ended in grind arith) }
 
 is_pre_less : (text a r : List ℕ) (ids : List Id) → IsPreRelease text (a ++ r) ids → IsPreRelease text a ids
 is_pre_less text a r ids (dashed s rest list long) = dashed s a ids (longest_less s a r ids long)

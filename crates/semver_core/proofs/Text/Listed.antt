@@ -47,8 +47,7 @@ listed_all (c ∷ rest) ids end h some e =
 
 pub listed_none : (text : List ℕ) → length text ≡ 0 → listed text ≡ []
 unfolding listed
-listed_none [] h = refl
-listed_none (c ∷ rest) h = absurd (omega arith)
+listed_none text h = grind arith
 
 pub listed_count : (text : List ℕ) → 0 < length text → length (listed text) ≡ count_by (λ c. c == 46) text + 1
 unfolding listed
@@ -58,20 +57,13 @@ listed_count (c ∷ rest) h = length-map (pieces (c ∷ rest)) identifier_of ∙
 pub listed_some : (text : List ℕ) → 0 < length text → 0 < length (listed text)
 listed_some text h = omega (arith, listed_count text h)
 
-pub some_listed : (text : List ℕ) (ids : List Identifier) → 0 < length text → ids_view ids ≡ listed text → 0 < length ids
-some_listed text ids h e = rw (length-map ids id_view) at (rw (← e) at (listed_some text h))
-
-pub ruleset listed_read = (listed_utf8, listed_begins, listed_none)
+pub ruleset listed_read = (listed_utf8, listed_begins, listed_none, append-nil)
 
 pub ruleset listed_counts = (listed_count, listed_none)
 
-none_listed : length (listed []) ≡ 0
-unfolding listed
-none_listed = refl
-
 -- no more than the bytes, since the first of them is no dot
 pub listed_most : (text : List ℕ) → is_listed text ≡ true → length (listed text) ≤ length text
-listed_most [] h = omega (arith, none_listed)
+listed_most [] h = omega (arith, ap length (listed_none [] refl))
 listed_most (c ∷ rest) h =
     let dot : (c == 46) ≡ false = not_dot c (listed_begins (c ∷ rest) h (omega arith)) in
     let more : count_by (λ b. b == 46) (c ∷ rest) ≡ count_by (λ b. b == 46) rest =
@@ -104,12 +96,9 @@ value_zeros : (text : List ℕ) → list_all is_ascii_digit text ≡ true → di
 value_zeros [] d e = refl
 value_zeros (c ∷ rest) d e = grind (arith, nat_tests, digits_grow (digit_value c) rest, value_zeros rest)
 
-id_zeros : (text : List ℕ) → identifier_of text ≡ Numeric 0 → list_all is_zero text ≡ true
-id_zeros text e = grind (arith, value_zeros)
-
 one_piece : (ps : List (List ℕ)) → map identifier_of ps ≡ Numeric 0 ∷ [] → list_all is_zero (join_with_byte 46 ps) ≡ true
 one_piece [] e = cc
-one_piece (p ∷ []) e = id_zeros p (grind (arith, e))
+one_piece (p ∷ []) e = grind (arith, value_zeros, e)
 one_piece (p ∷ q ∷ ps) e = cc
 
 pub listed_zeros : (text : List ℕ) → listed text ≡ Numeric 0 ∷ [] → list_all is_zero text ≡ true
@@ -126,9 +115,7 @@ id_valid text h =
 
 ids_valid : (ps : List (List ℕ)) → list_all is_identifier ps ≡ true → All IsId (map identifier_of ps)
 ids_valid [] h = All-nil IsId
-ids_valid (p ∷ ps) h =
-    let both = and_parts (is_identifier p) (list_all is_identifier ps) h in
-    All-cons IsId (identifier_of p) (map identifier_of ps) (id_valid p both.0) (ids_valid ps both.1)
+ids_valid (p ∷ ps) h = grind (arith, All-cons, id_valid p, ids_valid ps)
 
 pub listed_valid : (text : List ℕ) → is_listed text ≡ true → All IsId (listed text)
 unfolding is_listed listed
@@ -137,10 +124,9 @@ listed_valid (c ∷ rest) h = ids_valid (pieces (c ∷ rest)) h
 
 -- a text that spells no identifier is empty
 pub listed_empty : (text : List ℕ) → listed text ≡ [] → text ≡ []
-unfolding listed
 listed_empty [] h = refl
-listed_empty (c ∷ rest) h = absurd (some (pieces (c ∷ rest)) (omega (arith, length-slice_split (λ b. b == 46) (c ∷ rest))) h)
-  where
-    some : (ps : List (List ℕ)) → 0 < length ps → map identifier_of ps ≡ [] → ⊥
-    some [] n e = omega arith
-    some (p ∷ ps) n e = cc
+listed_empty (c ∷ rest) h = absurd (omega (arith, listed_some (c ∷ rest) (omega arith), ap length h))
+
+pub ruleset listed_bounds = (listed_most, length-map)
+
+pub ruleset zero_texts = (zeros_listed, listed_zeros, listed_none)

@@ -1,8 +1,8 @@
 -- A number and an identifier list are read exactly where the grammar has them.
 use Rattle.semver_core.proofs.Common.{list_at, begins, is_identifier_char, Id, IsLongestIdentifiers, goes_on, is_identifier}
-use Rattle.semver_core.proofs.Common.{pieces, IsWholeNumber, Bool, List, None, Some, [], arith, drop, false, inl, inr, length}
-use Rattle.semver_core.proofs.Common.{ltb, refl, sym, take, true, ℕ, ◌*◌, ◌++◌, ◌+◌, ◌<◌, ◌∷◌, ◌≡◌, ◌≤◌, nat_tests, cases_Bool}
-use Rattle.semver_core.proofs.Common.{lt-ltb, drop-drop, take-append-drop, digit_value, is_ascii_digit, list_all, onto_first}
+use Rattle.semver_core.proofs.Common.{pieces, IsWholeNumber, Bool, List, None, Some, [], arith, drop, false, length}
+use Rattle.semver_core.proofs.Common.{ltb, refl, sym, take, true, ℕ, ◌*◌, ◌++◌, ◌+◌, ◌∷◌, ◌≡◌, ◌≤◌, nat_tests}
+use Rattle.semver_core.proofs.Common.{drop-drop, take-append-drop, digit_value, is_ascii_digit, list_all, onto_first}
 use Rattle.semver_core.proofs.Common.{digits_end, digits_from, list_len, number_at, ◌&&◌, take-append_seam, digits_value_after}
 use Rattle.semver_core.proofs.Common.{prefix_len, if◌then◌else◌}
 use Rattle.{std.proofs.Math.Seq.drop-append_seam, std.proofs.lemmas.List.Folds.length-prefix_len}
@@ -27,13 +27,9 @@ digits_found : (limit v k : ℕ) (t : List ℕ) → v ≤ limit
     else digits_end (digits_value_after 10 v (take (prefix_len is_ascii_digit t) t)) (k + prefix_len is_ascii_digit t))
 unfolding digits_from
 digits_found limit v k [] small = grind (arith, nat_tests)
-digits_found limit v k (c ∷ rest) small = elim (cases_Bool (is_ascii_digit c)) [
-  | inl digit ↦
-      let next = digits_found limit (v * 10 + digit_value c) (k + 1) rest in
-      let grows = digits_grow (v * 10 + digit_value c) (take (prefix_len is_ascii_digit rest) rest) in
-      rw (digit, take_one) (grind (arith, nat_tests))
-  | inr other ↦ rw other (grind (arith, nat_tests))
-]
+digits_found limit v k (c ∷ rest) small =
+    let grows = digits_grow (v * 10 + digit_value c) (take (prefix_len is_ascii_digit rest) rest) in
+    grind (arith, nat_tests, take_one, digits_found limit (v * 10 + digit_value c) (k + 1) rest)
 
 pub number_sound : (limit : ℕ) (text : List ℕ) (at n end : ℕ) → number_at limit text at ≡ Some (n, end)
     → (digits : List ℕ) × (drop at text ≡ digits ++ drop end text) × IsWholeNumber limit digits (drop end text) n
@@ -63,9 +59,6 @@ number_complete limit text at n digits rest e w =
 abbrev pub tail_runs : List (List ℕ) → Bool
 tail_runs [] = true
 tail_runs (first ∷ others) = list_all is_identifier_char first && list_all is_identifier others
-
-run_from : (t : List ℕ) → 0 < length t → list_all is_identifier_char t ≡ true → is_identifier t ≡ true
-run_from t some each = rw (lt-ltb 0 (length t) some, each) refl
 
 pub onto_tail : (c : ℕ) (ps : List (List ℕ)) → is_identifier_char c ≡ true → tail_runs ps ≡ true → list_all is_identifier (onto_first c ps) ≡ true
 onto_tail c ps h t = grind (arith, nat_tests)

@@ -1,24 +1,20 @@
 -- Runs of identifier characters, and lists of them.
-use Rattle.semver_core.proofs.Common.{Bool, and_parts, list_at, list_of, begins, is_identifier_char, Id, Numeric, goes_on}
+use Rattle.semver_core.proofs.Common.{Bool, list_at, list_of, begins, is_identifier_char, Id, Numeric, goes_on}
 use Rattle.semver_core.proofs.Common.{identifier_of, List, Some, [], add-one, add_comm, ap, append_assoc, arith, drop, eqb}
 use Rattle.semver_core.proofs.Common.{false, get_or, length, ltb, refl, rules, sym, take, true, ℕ, ◌++◌, ◌+◌, ◌-◌, ◌<◌, ◌∙◌}
 use Rattle.semver_core.proofs.Common.{◌∷◌, ◌≡◌, ◌≤◌, nat_tests, drop-drop, length-drop, is_ascii_digit, All, list_all}
 use Rattle.semver_core.proofs.Common.{prefix_len, IsCharBoundary, IsUtf8, ◌==◌, digits_value, list_len, map, ◌^◌, take-add}
 use Rattle.semver_core.proofs.Common.{slice_split_at, slice_split_none, prefix_len-le-length, IsCharBoundary-after_ascii}
-use Rattle.std.proofs.lemmas.{List.{get_or-take, length-take, get_or-drop}, List.Sums.prefix_len_passes, Str.Parse.IsDigitsTest}
+use Rattle.std.proofs.lemmas.{List.{get_or-take, length-take, get_or-drop}, List.Sums.prefix_len_passes}
 use Rattle.std.proofs.lemmas.Str.Parse.{IsNumeralModel, numerals_by_value}
 
 -- what holds of each character, and what follows from that
 pub all_more : (p q : ℕ → Bool) (text : List ℕ) → ((c : ℕ) → p c ≡ true → q c ≡ true) → list_all p text ≡ true → list_all q text ≡ true
 all_more p q [] h each = refl
-all_more p q (c ∷ rest) h each =
-    let both = and_parts (p c) (list_all p rest) each in rw (h c both.0) (all_more p q rest h both.1)
-
-digits_test : IsDigitsTest (λ ds. list_all is_ascii_digit ds ≡ true)
-digits_test = search rules
+all_more p q (c ∷ rest) h each = grind (arith, h c, all_more p q rest h)
 
 pub numerals : IsNumeralModel (λ ds. list_all is_ascii_digit ds ≡ true) (digits_value 10)
-numerals = numerals_by_value _ digits_test
+numerals = numerals_by_value _ (search rules)
 
 -- a run of digits is the number where it fits
 pub of_digits : (run : List ℕ) → list_all is_ascii_digit run ≡ true → digits_value 10 run < 2 ^ 64 → identifier_of run ≡ Numeric (digits_value 10 run)
@@ -47,8 +43,7 @@ prefix_ends p [] = refl
 prefix_ends p (c ∷ rest) = grind (arith, drop_one, prefix_ends p rest)
 
 pub prefix_whole : (p : ℕ → Bool) (run more : List ℕ) → list_all p run ≡ true → begins p more ≡ false → prefix_len p (run ++ more) ≡ length run
-prefix_whole p [] [] h k = refl
-prefix_whole p [] (c ∷ more) h k = grind arith
+prefix_whole p [] more h k = grind arith
 prefix_whole p (c ∷ run) more h k = grind (arith, prefix_whole p run more)
 
 -- the list goes over the run at its front, and then as the rest does
@@ -59,8 +54,7 @@ list_len_run (c ∷ rest) = grind (arith, drop_one, list_len_run rest)
 
 pub list_len_stop : (t : List ℕ) → goes_on t ≡ false → list_len t ≡ 0
 unfolding list_len
-list_len_stop [] h = refl
-list_len_stop (c ∷ rest) h = rw h refl
+list_len_stop t h = grind arith
 
 -- what goes on after a run goes on with a dot
 dot_after : (t : List ℕ) → begins is_identifier_char t ≡ false → goes_on t ≡ true → (t ≡ 46 ∷ drop 1 t) × (begins is_identifier_char (drop 1 t) ≡ true)
@@ -104,9 +98,6 @@ list_next t h =
     let split = slice_split_at (λ c. c == 46) (take n t) 46 (take (list_len rest) rest) (run_no_dot t) refl in
     (rw taken (ap (map identifier_of) split), rw len (omega arith), more)
 
-prefix_some : (t : List ℕ) → begins is_identifier_char t ≡ true → 0 < prefix_len is_identifier_char t
-prefix_some t h = grind arith
-
 pub ascii : (c : ℕ) → is_identifier_char c ≡ true → c < 128
 ascii c h = grind (arith, nat_tests)
 
@@ -115,7 +106,7 @@ pub run_boundary : (text : List ℕ) (start end : ℕ) → IsUtf8 text → start
     → end ≡ start + prefix_len is_identifier_char (drop start text) → IsCharBoundary text end
 run_boundary text start end u le h is =
     let n = prefix_len is_identifier_char (drop start text) in
-    let some = prefix_some (drop start text) h in
+    let some : 0 < n = grind arith in
     let most = prefix_len-le-length is_identifier_char (drop start text) in
     let inside : start + (n - 1) < length text = omega (arith, length-drop start text) in
     let passes = prefix_len_passes is_identifier_char (drop start text) (n - 1) 0 (omega arith) in

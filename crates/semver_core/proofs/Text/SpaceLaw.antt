@@ -1,22 +1,12 @@
 -- Serves proofs. Whitespace is told by its code point: the bytes of a character are whitespace where the character is.
-use Rattle.semver_core.proofs.Common.{is_whitespace, List, [], ap, arith, false, inl, inr, refl, true, ℕ, ◌*◌, ◌++◌, ◌+◌, ◌<◌}
+use Rattle.semver_core.proofs.Common.{is_whitespace, List, ap, arith, false, inl, inr, refl, true, ℕ, ◌*◌, ◌++◌, ◌+◌, ◌<◌}
 use Rattle.semver_core.proofs.Common.{◌∙◌, ◌∷◌, ◌≡◌, ◌≤◌, nat_tests, cases_lt, lt-ltb, len_utf8, encode_utf8, space_len}
 use Rattle.semver_core.proofs.Common.{if◌then◌else◌, ◌%◌, ◌/◌, le-ltb, encode_ascii}
 use Rattle.semver_core.specs.Internal.Spaces.{space_len_two, space_len_three, goes_on_with}
 use Rattle.std.{proofs.lemmas.Str.len_utf8_ascii, specs.Int.is_in_range}
 
-two_code : (c : ℕ) → 128 ≤ c → c < 2048 → ((192 + c / 64) % 32) * 64 + (128 + c % 64) % 64 ≡ c
-two_code c h l = omega arith
-
-three_code : (c : ℕ) → 2048 ≤ c → c < 65536 → (((224 + c / 4096) % 16) * 64 + (128 + (c / 64) % 64) % 64) * 64 + (128 + c % 64) % 64 ≡ c
-three_code c h l = omega arith
-
 goes_on : (n : ℕ) → goes_on_with (128 + n % 64) ≡ true
 goes_on n = grind (arith, nat_tests)
-
--- whitespace has at most three bytes
-wide_is_dark : (c : ℕ) → 65536 ≤ c → is_whitespace c ≡ false
-wide_is_dark c h = grind (arith, nat_tests)
 
 -- bytes from 128 on
 high : (a : ℕ) (rest : List ℕ) → 128 ≤ a → space_len (a ∷ rest) ≡ space_len_two a rest
@@ -24,8 +14,7 @@ unfolding space_len
 high a rest h = rw (le-ltb a 128 h) refl
 
 not_three : (a b : ℕ) (rest : List ℕ) → is_in_range 0xE0 0xEF a ≡ false → space_len_three a b rest ≡ 0
-not_three a b [] h = refl
-not_three a b (c ∷ rest) h = rw h refl
+not_three a b rest h = grind arith
 
 two_bytes : (a b c : ℕ) (rest : List ℕ) → 192 ≤ a → a < 224 → goes_on_with b ≡ true → (a % 32) * 64 + b % 64 ≡ c
     → space_len (a ∷ b ∷ rest) ≡ (if is_whitespace c then 2 else 0)
@@ -43,8 +32,7 @@ four_bytes a b rest l = grind (arith, nat_tests, high, not_three)
 
 -- a byte inside a character begins none
 pub space_len-inside : (b : ℕ) (rest : List ℕ) → 128 ≤ b → b < 192 → space_len (b ∷ rest) ≡ 0
-space_len-inside b [] l h = high b [] l
-space_len-inside b (c ∷ rest) l h = grind (arith, nat_tests, high, not_three)
+space_len-inside b rest l h = grind (arith, nat_tests, high, not_three)
 
 -- the characters of one byte, of two, of three and of four
 pub front_is_first_character : (c : ℕ) (rest : List ℕ) → space_len (encode_utf8 c ++ rest) ≡ (if is_whitespace c then len_utf8 c else 0)
@@ -54,14 +42,16 @@ front_is_first_character c rest = elim (cases_lt c 128) [
   | inr low ↦ elim (cases_lt c 2048) [
     | inl two ↦
         rw (le-ltb c 128 low, lt-ltb c 2048 two)
-        (two_bytes (192 + c / 64) (128 + c % 64) c rest (omega arith) (omega arith) (goes_on c) (two_code c low two))
+        (two_bytes (192 + c / 64) (128 + c % 64) c rest (omega arith) (omega arith) (goes_on c) (omega arith))
     | inr mid ↦ elim (cases_lt c 65536) [
       | inl three ↦
           rw (le-ltb c 128 low, le-ltb c 2048 mid, lt-ltb c 65536 three)
           (three_bytes (224 + c / 4096) (128 + (c / 64) % 64) (128 + c % 64) c rest
-          (omega arith) (omega arith) (goes_on (c / 64)) (goes_on c) (three_code c mid three))
+          (omega arith) (omega arith) (goes_on (c / 64)) (goes_on c) (omega arith))
       | inr four ↦
-          rw (wide_is_dark c four, le-ltb c 128 low, le-ltb c 2048 mid, le-ltb c 65536 four)
+          -- whitespace has at most three bytes
+          let dark : is_whitespace c ≡ false = grind (arith, nat_tests) in
+          rw (dark, le-ltb c 128 low, le-ltb c 2048 mid, le-ltb c 65536 four)
           (four_bytes (240 + c / 262144) (128 + (c / 4096) % 64) ((128 + (c / 64) % 64) ∷ (128 + c % 64) ∷ rest) (omega arith))
     ]
   ]

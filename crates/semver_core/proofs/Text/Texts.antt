@@ -4,7 +4,7 @@ use Rattle.semver_core.proofs.Common.{begins, is_identifier_char, is_whitespace,
 use Rattle.semver_core.proofs.Common.{IsWholeNumber, Reads, begins_pre_release, no_mark, VersionValue, List, None, Option, Some}
 use Rattle.semver_core.proofs.Common.{[], ap, append_assoc, arith, drop, eqb, false, inl, inr, length, refl, subst, sym, take}
 use Rattle.semver_core.proofs.Common.{true, ℕ, ◌++◌, ◌+◌, ◌<◌, ◌||◌, ◌∙◌, ◌∷◌, ◌≡◌, nat_tests, cases_Bool, take-append-drop}
-use Rattle.semver_core.proofs.Common.{is_ascii_digit, encode_utf8, first_so, second_so, list_all, IsCharBoundary, IsUtf8}
+use Rattle.semver_core.proofs.Common.{is_ascii_digit, encode_utf8, second_so, list_all, IsCharBoundary, IsUtf8}
 use Rattle.semver_core.proofs.Common.{encode_utf8_all, ◌==◌, HasOneReading, build_at, list_len, mark_len, number_at, or_nothing}
 use Rattle.semver_core.proofs.Common.{pre_release_at, IsPieceAt, IsBuild, IsMark, IsPreRelease, bare, begins_build}
 use Rattle.semver_core.proofs.Common.{capital_mark, dashed, no_build, no_pre_release, plus, small_mark, add-zero, slice_range}
@@ -111,12 +111,10 @@ pre_sound text at = elim (cases_Bool (begins (λ b. b == 45) (drop at text))) [
 
 -- nothing stands there
 pub none_pre : (text : List ℕ) (at : ℕ) (r : List ℕ) → drop at text ≡ r → begins_pre_release r ≡ false → pre_release_at text at ≡ ([], at)
-none_pre text at [] e none = grind (arith, list_none)
-none_pre text at (c ∷ r) e none = grind (arith, drop_next at text r c e)
+none_pre text at r e none = grind (arith, list_none, drop_next)
 
 pub none_build : (text : List ℕ) (at : ℕ) (r : List ℕ) → drop at text ≡ r → begins_build r ≡ false → build_at text at ≡ ([], at)
-none_build text at [] e none = rw e refl
-none_build text at (c ∷ r) e none = grind (arith, drop_next at text r c e)
+none_build text at r e none = grind (arith, drop_next)
 
 build_sound : (text : List ℕ) (at : ℕ)
     → IsPieceAt (λ piece rest. IsBuild piece rest (build_at text at).0) text at (build_at text at).1
@@ -192,13 +190,6 @@ divided_at limit text mark blank at t divided m b e =
       rest_is = refl;
     }
 
--- what the reader finds behind the mark and the whitespace is a version of the text
-version_sound : (limit : ℕ) (text mark blank : List ℕ) (at : ℕ) (v : VersionValue) → text ≡ mark ++ (blank ++ drop at text) → IsMark mark → IsBlank blank
-    → version_at limit text at ≡ Some v → Reads limit text v
-version_sound limit text mark blank at v divided m b e =
-    let found = bind_some (triple_at limit text at) _ v e in
-    rw (← some_inside _ v found.2) (divided_at limit text mark blank at found.0 divided m b found.1).reads
-
 -- the numbers, the identifiers and the rest of a version are found where its numbers begin
 pub read_at : (limit : ℕ) (text : List ℕ) (at : ℕ) (v : VersionValue) (r : Reads limit text v)
     → drop at text ≡ r.major ++ 46 ∷ (r.minor ++ 46 ∷ (r.patch ++ (r.pre_release ++ (r.build ++ r.rest))))
@@ -213,8 +204,7 @@ read_at limit text at v r e =
 
 -- the first byte of whitespace is neither a digit nor a mark
 blank_byte : (t : List ℕ) → BeginsBlank t → begins (λ b. is_ascii_digit b || b == 118 || b == 86) t ≡ false
-blank_byte [] b = refl
-blank_byte (c ∷ rest) b = grind (arith, nat_tests, char_from_byte (c ∷ rest) b.rest b.character b.spelled)
+blank_byte t b = grind (arith, nat_tests, char_from_byte t b.rest b.character b.spelled)
 
 pub small_digit : (t : List ℕ) → begins is_ascii_digit t ≡ true → BeginsBlank t → ⊥
 small_digit t h b = grind (arith, blank_byte t b)
@@ -223,7 +213,7 @@ begins_blank : (c : ℕ) (cs D : List ℕ) → list_all is_whitespace (c ∷ cs)
 begins_blank c cs D h = record {
   character = c;
   rest = encode_utf8_all cs ++ D;
-  passes = first_so (is_whitespace c) (list_all is_whitespace cs) h;
+  passes = grind arith;
   spelled = append_assoc (encode_utf8 c) (encode_utf8_all cs) D;
 }
 
@@ -241,8 +231,7 @@ pub mark_boundary : (text : List ℕ) (n : ℕ) → IsUtf8 text → n ≡ mark_l
 mark_boundary text n u e = grind (arith, nat_tests, IsCharBoundary-start text u, IsCharBoundary-after_ascii text 0 u)
 
 pub mark_is : (text : List ℕ) → IsMark (take (mark_len text) text)
-mark_is [] = no_mark
-mark_is (c ∷ rest) = grind (arith, nat_tests, no_mark, small_mark, capital_mark)
+mark_is text = grind (arith, nat_tests, no_mark, small_mark, capital_mark)
 
 pub no_mark_at : (c : ℕ) (t : List ℕ) → ((eqb c 118 || eqb c 86) ≡ true → ⊥) → mark_len (c ∷ t) ≡ 0
 no_mark_at c t never = grind arith
@@ -264,8 +253,10 @@ number_begins (c ∷ d) r some each = grind arith
 pub loose_some : (limit : ℕ) (text : List ℕ) (start : ℕ) (v : VersionValue) → IsAfterBlank text (mark_len text) start → version_at limit text start ≡ Some v → Reads limit text v
 loose_some limit text start v a e =
     let k = mark_len text in
-    version_sound limit text (take k text) (slice_range text k start) start v
-    (sym (take-append-drop k text) ∙ ap (λ r. take k text ++ r) (drop_split text k start a.after)) (mark_is text) a.blank e
+    let divided = sym (take-append-drop k text) ∙ ap (λ r. take k text ++ r) (drop_split text k start a.after) in
+    let found = bind_some (triple_at limit text start) _ v e in
+    rw (← some_inside _ v found.2)
+    (divided_at limit text (take k text) (slice_range text k start) start found.0 divided (mark_is text) a.blank found.1).reads
 
 pub loose_at : (limit : ℕ) (text : List ℕ) (start : ℕ) (v : VersionValue) → IsAfterBlank text (mark_len text) start → Reads limit text v → version_at limit text start ≡ Some v
 loose_at limit text start v a r =

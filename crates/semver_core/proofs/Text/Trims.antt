@@ -5,12 +5,13 @@ use Rattle.semver_core.proofs.Common.{◌+◌, ◌-◌, ◌<◌, ◌∙◌, ◌�
 use Rattle.semver_core.proofs.Common.{encode_utf8, list_all, IsCharBoundary, IsUtf8, encode_utf8_all, after_spaces}
 use Rattle.semver_core.proofs.Common.{drop_end_spaces, drop_spaces, space_len, trim, take-append_seam, drop_at, drop_split}
 use Rattle.semver_core.proofs.Common.{list_all-append, IsUtf8-drop, encode_ascii, encodes-append, len_utf8_bounds}
-use Rattle.semver_core.proofs.Common.{length-encode, IsTrim, and_from, reverse-append, length-reverse, IsCharBoundary-at_seam}
+use Rattle.semver_core.proofs.Common.{length-encode, IsTrim, reverse-append, length-reverse, IsCharBoundary-at_seam}
 use Rattle.semver_core.proofs.Common.{IsUtf8-encode, IsUtf8-take, IsScalar, reverse, get_or, nat_tests, drop-cons, drop_all}
-use Rattle.semver_core.proofs.Common.{suc, take-append-drop, ◌==◌}
+use Rattle.semver_core.proofs.Common.{Bool, suc, take-append-drop, ◌==◌, prefix_len}
+use Rattle.std.proofs.lemmas.List.{reverse-reverse}
 use Rattle.{std.proofs.lemmas.Str.{IsCharBoundary-before_ascii, IsUtf8-nil}, std.specs.Char.{is_ascii_graphic}}
 use Rattle.semver_core.proofs.Text.{Blanks.{Passed, passed_none, passed_more, passed_stop, passed_end}, SpaceLaw.space_len-white}
-use Rattle.semver_core.proofs.Text.{Runs.begins_less, SpaceLaw.{space_len-dark, space_len-inside}, Spaces.{drop_spaces-more, drop_spaces-none}}
+use Rattle.semver_core.proofs.Text.{Runs.{begins_less, prefix_each, prefix_ends}, SpaceLaw.{space_len-dark, space_len-inside}, Spaces.{drop_spaces-more, drop_spaces-none}}
 
 -- at the front
 
@@ -118,13 +119,15 @@ pub record Fronted (cs : List ℕ) : Type 0 where
   pub dark : begins is_whitespace rest ≡ false
 
 pub fronted : (cs : List ℕ) → Fronted cs
-fronted [] = record { before = []; rest = []; divided = refl; blank = refl; dark = refl }
-fronted (c ∷ cs) = elim (cases_Bool (is_whitespace c)) [
-  | inl white ↦
-      let f = fronted cs in
-      record { before = c ∷ f.before; rest = f.rest; divided = grind (arith, f.divided); blank = grind (arith, f.blank); dark = f.dark }
-  | inr dark ↦ record { before = []; rest = c ∷ cs; divided = refl; blank = refl; dark = dark }
-]
+fronted cs =
+    let n = prefix_len is_whitespace cs in
+    record {
+      before = take n cs;
+      rest = drop n cs;
+      divided = sym (take-append-drop n cs);
+      blank = prefix_each is_whitespace cs;
+      dark = prefix_ends is_whitespace cs;
+    }
 
 -- and into what ends with another character and whitespace
 pub record Ended (cs : List ℕ) : Type 0 where
@@ -134,20 +137,21 @@ pub record Ended (cs : List ℕ) : Type 0 where
   pub blank : list_all is_whitespace after ≡ true
   pub dark : begins is_whitespace (reverse rest) ≡ false
 
+all_turned : (p : ℕ → Bool) (xs : List ℕ) → list_all p xs ≡ true → list_all p (reverse xs) ≡ true
+all_turned p [] h = refl
+all_turned p (x ∷ xs) h = grind (arith, reverse-append (x ∷ []) xs, list_all-append, all_turned p xs)
+
 pub ended : (cs : List ℕ) → Ended cs
-ended [] = record { rest = []; after = []; divided = refl; blank = refl; dark = refl }
-ended (c ∷ cs) = let e = ended cs in go e.after e.blank e.rest e.divided e.dark
-  where
-    go : (after : List ℕ) → list_all is_whitespace after ≡ true → (rest : List ℕ) → cs ≡ rest ++ after
-        → begins is_whitespace (reverse rest) ≡ false → Ended (c ∷ cs)
-    go after blank [] divided dark = elim (cases_Bool (is_whitespace c)) [
-      | inl white ↦
-          let all = and_from (is_whitespace c) (list_all is_whitespace after) white blank in
-          record { rest = []; after = c ∷ after; divided = ap (λ t. c ∷ t) divided; blank = all; dark = refl }
-      | inr dark ↦ record { rest = c ∷ []; after = after; divided = ap (λ t. c ∷ t) divided; blank = blank; dark = dark }
-    ]
-    go after blank (d ∷ xs) e dark =
-        record { rest = c ∷ d ∷ xs; after = after; divided = ap (λ t. c ∷ t) e; blank = blank; dark = ends_front c d xs ∙ dark }
+ended cs =
+    let f = fronted (reverse cs) in
+    let turned = reverse-reverse f.rest in
+    record {
+      rest = reverse f.rest;
+      after = reverse f.before;
+      divided = sym (reverse-reverse cs) ∙ ap reverse f.divided ∙ reverse-append f.before f.rest;
+      blank = all_turned is_whitespace f.before f.blank;
+      dark = ap (begins is_whitespace) turned ∙ f.dark;
+    }
 
 pub IsTrim_exists : (cs : List ℕ) → (middle : List ℕ) × IsTrim (encode_utf8_all cs) middle
 IsTrim_exists cs =
@@ -249,7 +253,7 @@ trim_in_two text rest middle start utf8 a r m =
 
 pub trimmed_none : (text : List ℕ) → (length text == 0) ≡ true → IsTrim text text
 trimmed_none [] h = rw (drop_spaces-nil, drop_end-all [] drop_spaces-nil) at (trim_is_middle [] IsUtf8-nil)
-trimmed_none (b ∷ rest) h = absurd (grind (arith, nat_tests))
+trimmed_none (b ∷ rest) h = grind (arith, nat_tests)
 
 visible_small : (b : ℕ) → is_ascii_graphic b ≡ true → b < 128
 visible_small b h = grind (arith, nat_tests)
@@ -279,6 +283,8 @@ trimmed_visible text utf8 some first last =
     let end = kept_end text (length text - 1) utf8 (omega arith) last in
     let value : trim text ≡ text = ap drop_end_spaces (kept_front text more first) ∙ end in
     subst (λ (t : List ℕ). IsTrim text t) value (trim_is_middle text utf8)
+
+pub ruleset trimmed = (trimmed_none, trimmed_visible)
 
 -- what is left of a text whose end is skipped, character by character
 pub record Shortened (text rest : List ℕ) : Type 0 where

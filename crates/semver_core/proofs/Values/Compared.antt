@@ -1,5 +1,5 @@
 -- Comparing the identifiers of the program is comparing what contracts see of them, and the order that counts builds.
-use Rattle.semver_core.proofs.Common.{is_empty, Id, id_cmp, id_view, ids_view, Identifier, List, [], ap, false, refl, true, ◌∷◌}
+use Rattle.semver_core.proofs.Common.{is_empty, Id, id_cmp, id_view, ids_view, Identifier, List, [], ap, refl, ◌∷◌, if◌then◌else◌}
 use Rattle.semver_core.proofs.Common.{◌≡◌, slice_cmp, Equal, Greater, Less, pre_cmp, ordering_then, VersionValue, None, Option}
 use Rattle.semver_core.proofs.Common.{Some, arith, ◌∙◌, kind_between, precedence_total, precedence, VersionDiff, ordering_reverse}
 use Rattle.semver_core.proofs.Common.{Ordering, kind_up, same_key}
@@ -12,19 +12,9 @@ ids_view_cmp [] [] = refl
 ids_view_cmp (x ∷ xs) (y ∷ ys) = ap (ordering_then (id_cmp (id_view x) (id_view y))) (ids_view_cmp xs ys)
 ids_view_cmp xs ys = refl
 
-pub no_pre : (xs ys : List Id) → is_empty xs ≡ true → is_empty ys ≡ true → Equal ≡ pre_cmp xs ys
-no_pre xs ys h k = grind arith
-
-pub first_pre : (xs ys : List Id) → is_empty xs ≡ false → is_empty ys ≡ true → Less ≡ pre_cmp xs ys
-first_pre xs ys h k = grind arith
-
-pub second_pre : (xs ys : List Id) → is_empty xs ≡ true → is_empty ys ≡ false → Greater ≡ pre_cmp xs ys
-second_pre xs ys h k = grind arith
-
-pub both_pre : (xs ys : List Id) → is_empty xs ≡ false → is_empty ys ≡ false → slice_cmp id_cmp xs ys ≡ pre_cmp xs ys
-both_pre xs ys h k = grind arith
-
-pub ruleset pre_compared = (no_pre, first_pre, second_pre, both_pre)
+pub pre_cases : (xs ys : List Id) → pre_cmp xs ys
+    ≡ (if is_empty xs then (if is_empty ys then Equal else Greater) else (if is_empty ys then Less else slice_cmp id_cmp xs ys))
+pre_cases xs ys = grind arith
 
 -- ---- `diff` is symmetric.
 
@@ -32,9 +22,7 @@ abbrev kind_by : Ordering → VersionValue → VersionValue → Option VersionDi
 kind_by r v w = elim r [ Less ↦ Some (kind_up v w) | Equal ↦ None | Greater ↦ Some (kind_up w v) ]
 
 turned : (r : Ordering) (v w : VersionValue) → kind_by (ordering_reverse r) v w ≡ kind_by r w v
-turned Less v w = refl
-turned Equal v w = refl
-turned Greater v w = refl
+turned r v w = grind arith
 
 pub difference_symmetric : (v w : VersionValue) → kind_between v w ≡ kind_between w v
 difference_symmetric v w = ap (λ r. kind_by r v w) (precedence_total.antisymm v w) ∙ turned (precedence w v) v w

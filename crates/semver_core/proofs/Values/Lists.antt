@@ -1,6 +1,6 @@
 -- The identifiers of a pre-release and of build metadata in one list.
 use Rattle.semver_core.proofs.Common.{Id, Identifier, List, [], ap, arith, drop, ids_view, id_view, length, length-drop, length-map}
-use Rattle.semver_core.proofs.Common.{length-take-le, sym, take, take_rest, ◌++◌, ◌+◌, ◌-◌, ◌∙◌, ◌∷◌, ◌≡◌, ◌≤◌}
+use Rattle.semver_core.proofs.Common.{length-take-le, sym, take, take_rest, ◌++◌, ◌-◌, ◌∙◌, ◌∷◌, ◌≡◌, ◌≤◌}
 use Rattle.std.proofs.lemmas.List.{drop-map, length-append, take-map}
 use Rattle.semver_core.proofs.Common.{take-append_seam}
 use Rattle.std.proofs.Math.Seq.{drop-append_seam}
@@ -11,11 +11,7 @@ pub divided : (lists : Lists) (pre build : List Id) → ids_view lists.ids.items
     → AreLists lists pre build
 divided lists pre build whole len =
     let count : length (ids_view lists.ids.items) ≡ length lists.ids.items = length-map lists.ids.items id_view in
-    record {
-      fits = (let sum : length pre + length build ≡ length lists.ids.items = sym (length-append pre build) ∙ rw whole at count in omega (arith, len));
-      pre_release = rw (whole, len) (take-append_seam pre build);
-      build = rw (whole, len) (drop-append_seam pre build);
-    }
+    grind (arith, length-append, take-append_seam, drop-append_seam)
 
 -- a front of the identifiers, and what is behind it, where they stand
 pub front_view : (lists : Lists) (items : List Identifier) → items ≡ lists.ids.items
@@ -35,3 +31,5 @@ alone lists id fits pre none =
     let first : lists.pre_len ≡ 1 = sym (length-take-le lists.pre_len (ids_view lists.ids.items) (rw count fits)) ∙ ap length pre in
     let rest : length lists.ids.items - lists.pre_len ≡ 0 = rw count at (sym (length-drop lists.pre_len (ids_view lists.ids.items)) ∙ ap length none) in
     (omega arith, first)
+
+pub ruleset split_views = (take-map, drop-map)

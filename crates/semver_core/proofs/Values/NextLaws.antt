@@ -18,8 +18,7 @@ zero_alone : All IsId (Numeric 0 ∷ [])
 zero_alone = All-cons IsId (Numeric 0) [] (lit< tt) (All-nil IsId)
 
 more_above : (xs : List Id) → 0 < length xs → pre_cmp xs (xs ++ Numeric 0 ∷ []) ≡ Less
-more_above [] h = absurd (omega arith)
-more_above (x ∷ xs) h = below_more (x ∷ xs) (Numeric 0) []
+more_above xs h = grind (arith, below_more xs)
 
 more_least : (xs ys : List Id) → 0 < length xs → pre_cmp xs ys ≡ Less → is_le (pre_cmp (xs ++ Numeric 0 ∷ []) ys) ≡ true
 more_least [] ys h k = absurd (omega arith)

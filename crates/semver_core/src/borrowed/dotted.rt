@@ -42,7 +42,7 @@ fn behind_one(text: &[u8]) -> &[u8]
 
 // The first identifier of a text, and the text of the others.
 #[inline(always)]
-#[tactic(auto, using(crate::proofs::Text::Firsts::front_fits))]
+#[tactic(auto, using(crate::proofs::Text::Firsts::firsts))]
 pub(crate) fn first_id(text: &[u8]) -> (IdRef<'_>, &[u8])
     requires listed { is_listed text.now ≡ true }
     requires some { 0 < length text.now }

@@ -104,7 +104,7 @@ impl<'a> IdentifierRefs<'a> {
 
     // A number that is not below that of the identifiers that are left.
     #[inline(always)]
-    #[tactic(auto, using(crate::proofs::Text::Listed::listed_most))]
+    #[tactic(auto, using(crate::proofs::Text::Listed::listed_bounds))]
     pub(crate) fn at_most(&self) -> usize
         ensures { length self.now ≤ result }
     {

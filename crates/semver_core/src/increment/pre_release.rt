@@ -46,6 +46,7 @@ pub(super) fn first_number(base: IdentifierBase) -> u64
 }
 
 // The place of the last number of a list, and the number.
+#[tactic(auto, using(crate::proofs::Increments::LastNumber::tracking))]
 fn last_number(ids: &IdentifierRefs<'_>) -> Option<(usize, u64)>
     ensures { Tracks ids.now [] result }
 {

@@ -68,6 +68,7 @@ pub(crate) fn behind_id(bytes: &[u8]) -> Option<&[u8]>
 }
 
 // Whether the bytes are the key of a list of identifiers.
+#[tactic(auto, using(crate::proofs::Encoding::Checking::ids_last))]
 fn are_ids(bytes: &[u8]) -> bool
     ensures sound { IsTrue result → AreIds bytes.now }
     ensures complete { AreIds bytes.now → IsTrue result }

@@ -7,6 +7,7 @@ ghost use Rattle.semver_core.specs.Words.{length, lent_id_view};
 use crate::{IdentifierRef, IdentifierRefs};
 
 // Adds the key of a number.
+#[tactic(auto, using(std::proofs::lemmas::Grind::common_steps))]
 pub(crate) fn write_number(number: u64, key: &mut Vec<u8>)
     requires { vec_len key.old + length (number_key number) ≤ vec_capacity key.old }
     ensures items { key.new.items ≡ key.old.items ++ number_key number }
@@ -44,6 +45,7 @@ fn write_text(text: &str, bytes: &mut Vec<u8>)
 }
 
 // Adds the key of an identifier.
+#[tactic(auto, using(std::proofs::lemmas::Grind::common_steps))]
 fn write_id(id: IdentifierRef<'_>, key: &mut Vec<u8>)
     requires { vec_len key.old + length (id_key (lent_id_view id)) ≤ vec_capacity key.old }
     ensures items { key.new.items ≡ key.old.items ++ id_key (lent_id_view id.entry) }
@@ -63,6 +65,7 @@ fn write_id(id: IdentifierRef<'_>, key: &mut Vec<u8>)
 }
 
 // Adds the key of a pre-release; of a release that it has none.
+#[tactic(auto, using(std::proofs::lemmas::Grind::common_steps))]
 pub(crate) fn write_pre(ids: IdentifierRefs<'_>, key: &mut Vec<u8>)
     requires { vec_len key.old + length (pre_key ids) ≤ vec_capacity key.old }
     ensures items { key.new.items ≡ key.old.items ++ pre_key ids.entry }

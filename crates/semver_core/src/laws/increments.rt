@@ -19,6 +19,7 @@ ghost use Rattle.semver_core.specs.Words.{ℕ, false, List, Option, true};
 ///
 /// A caller that needs these facts in a proof calls this function, which does nothing at run time.
 /// Their premise, that a version is one, is a clause of each accessor of a version.
+#[tactic(auto, using(std::proofs::lemmas::Grind::common_steps))]
 pub fn least_increments()
     ensures patch { (v : VersionValue) (id : Option (List ℕ)) (base : Option IdentifierBase)
         → IsVersion v

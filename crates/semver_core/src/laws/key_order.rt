@@ -11,6 +11,7 @@ ghost use Rattle.semver_core.specs.Words.{VersionValue};
 /// front of another.
 ///
 /// A caller that needs these facts in a proof calls this function, which does nothing at run time.
+#[tactic(auto, using(crate::proofs::Encoding::Order::key_order))]
 pub fn keys()
     ensures order { (v w : VersionValue) → IsVersion v → IsVersion w
         → slice_cmp nat_cmp (key v) (key w) ≡ precedence v w }

@@ -52,6 +52,7 @@ pub fn intervals_equal<V: Point>(first: &Interval<V>, second: &Interval<V>) -> b
 /// number, and any rest.
 ///
 /// A caller that needs these facts in a proof calls this function, which does nothing at run time.
+#[tactic(auto, using(crate::proofs::Increments::LastNumber::inc_laws))]
 pub fn order_and_increments()
     ensures reflexive { (v : VersionValue) → is_le (precedence v v) ≡ true }
     ensures antisymmetric { (v w : VersionValue) → is_le (precedence v w) ≡ true

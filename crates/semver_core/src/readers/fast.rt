@@ -106,6 +106,7 @@ pub(crate) fn leading_numbers<R: Reach>(text: &str) -> Option<(u64, u64, u64, us
 
 // The numbers of the version at the front of a text, and the place behind them.
 #[inline(always)]
+#[tactic(auto, using(crate::proofs::Text::Fronts::front_read))]
 pub(crate) fn numbers(text: &str) -> Option<(u64, u64, u64, usize)>
     ensures some { IfSome result (λ found.
         Reads MAX_SAFE_INTEGER text.now (qualified text.now found)) }
@@ -138,6 +139,7 @@ fn loose_numbers(text: &str) -> Option<(u64, u64, u64, usize)>
 
 // The version of three numbers and the qualifier that goes from a place to the end of the text.
 #[inline(never)]
+#[tactic(auto, using(crate::proofs::Text::Fronts::lists_found))]
 fn version_of_whole(
     alloc: Global,
     text: &str,

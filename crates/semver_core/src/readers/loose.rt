@@ -144,6 +144,7 @@ pub(crate) fn front_of_numbers(text: &str) -> usize
 /// Returns `None` if the text has none. Fails only if allocation fails, which happens only where
 /// the version has a pre-release or build metadata.
 #[inline(always)]
+#[tactic(auto, using(crate::proofs::Text::Fronts::release_read))]
 pub fn version_loose(alloc: Global, text: &str) -> Result<Option<Version>, AllocError>
     // What is read is a version of the text.
     ensures some { IfOk result (λ found. IfSome found (λ v. Reads MAX_SAFE_INTEGER text.now v)) }

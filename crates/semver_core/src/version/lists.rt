@@ -88,6 +88,7 @@ impl Lists {
     }
 
     // The pre-release and the build metadata. If allocation fails, the lists are returned.
+    #[tactic(auto, using(crate::proofs::Values::Lists::split_views))]
     pub(crate) fn split(self) -> Result<(Vec<Identifier>, Vec<Identifier>), Lists>
         requires { self.pre_len ≤ length self.ids.items }
         ensures pre_release { IfOk result (λ p.

@@ -131,7 +131,7 @@ impl Version {
     ///     assert!(rt; version == Version::parse(alloc, "1.2.3-rc.1+exp").ok());
     /// }
     /// ```
-    #[tactic(auto, using(crate::proofs::Text::Listed::listed_none))]
+    #[tactic(auto, using(crate::proofs::Text::Listed::zero_texts))]
     #[inline(always)]
     pub fn from_texts(
         alloc: Global,

@@ -29,7 +29,7 @@ pub(crate) fn cmp_numbers<V: Versioned, W: Versioned>(v: &V, w: &W) -> Ordering
 
 // The order of the pre-releases of two versions of any kinds.
 #[inline(always)]
-#[tactic(auto, using(crate::proofs::Values::Compared::pre_compared))]
+#[tactic(auto, using(crate::proofs::Values::Compared::pre_cases))]
 pub(crate) fn cmp_pre<V: Versioned, W: Versioned>(v: &V, w: &W) -> Ordering
     ensures { result ≡ pre_cmp (V.value v.now).pre_release (W.value w.now).pre_release }
 {
@@ -186,6 +186,7 @@ impl<'a> Hash for VersionRef<'a> {
 }
 
 // Hashes what counts of a version, the identifiers as a slice of them is hashed.
+#[tactic(auto, using(std::proofs::lemmas::Grind::common_steps))]
 fn hash_version<V: Versioned, H: Hasher>(version: &V, state: &mut H)
     ensures { state.new ≡ fold H.write state.old (version_writes (V.value version.now)) }
 {

@@ -1,5 +1,4 @@
-use Rattle.std.proofs.Common.{arith}
-use Rattle.semver_core.proofs.Encoding.Checking.{ids_found, ids_last, ids_next}
+use Rattle.semver_core.proofs.Encoding.Checking.{ids_found, ids_next}
 use Rattle.semver_core.proofs.keys.check.are_ids.Goals as goal
 
 pub ids-preserved : goal.ids-preserved
@@ -7,9 +6,3 @@ ids-preserved c = record {
   sound = λ ids. c.ids.invariant.sound (ids_found _ _ c.in-Some.ensures.sound ids);
   complete = λ ids. ids_next _ _ c.in-Some.ensures.sound c.in-Some.ensures.complete (c.ids.invariant.complete ids);
 }
-
-pub returns-then-others-eq1-clause-complete : goal.returns-then-others-eq1-clause-complete
-returns-then-others-eq1-clause-complete c = grind (arith, ids_last)
-
-pub returns-else-others-eq1-clause-complete : goal.returns-else-others-eq1-clause-complete
-returns-else-others-eq1-clause-complete c = grind (arith, ids_last)

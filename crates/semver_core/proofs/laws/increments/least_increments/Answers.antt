@@ -1,8 +1,8 @@
 -- What is proved of each row of the table, whatever the identifier and the base are.
 use Rattle.semver_core.proofs.Common.{Fault, VersionValue, IdentifierBase, List, Option, [], subst, sym, ℕ, ◌≡◌, Result, ⊤}
-use Rattle.semver_core.proofs.Common.{IsLeastVersion, incremented, Value, IsOkAnd, arith, codes, rules}
+use Rattle.semver_core.proofs.Common.{IsLeastVersion, incremented, Value, IsOkAnd, codes}
 use Rattle.semver_core.specs.Increments.{Least.IsPlain, Table.answer_of_inc}
-use Rattle.{std.specs.Prelude.unwrap_or, semver_core.proofs.Increments.Laws.increment_rises, std.proofs.lemmas.Grind.common_steps}
+use Rattle.{std.specs.Prelude.unwrap_or, semver_core.proofs.Increments.Laws.increment_rises}
 use Rattle.semver_core.proofs.{Increments.Laws.prerelease_least, Values.NextLaws.IsAbove}
 use Rattle.semver_core.proofs.laws.increments.least_increments.Goals as goal
 
@@ -26,21 +26,3 @@ returns-clause-above c = λ v w word id base none can e.
 pub returns-clause-build : goal.returns-clause-build
 returns-clause-build c = λ v w word id base e.
     (increment_rises v (unwrap_or id []) (unwrap_or base (Value 0)) ⊥ word w (λ no. absurd no) (λ no. absurd no) e).0
-
-pub returns-clause-patch : goal.returns-clause-patch
-returns-clause-patch c = search rules
-
-pub returns-clause-minor : goal.returns-clause-minor
-returns-clause-minor c = search rules
-
-pub returns-clause-major : goal.returns-clause-major
-returns-clause-major c = search rules
-
-pub returns-clause-premajor : goal.returns-clause-premajor
-returns-clause-premajor c = grind (arith, common_steps)
-
-pub returns-clause-preminor : goal.returns-clause-preminor
-returns-clause-preminor c = grind (arith, common_steps)
-
-pub returns-clause-prepatch : goal.returns-clause-prepatch
-returns-clause-prepatch c = grind (arith, common_steps)

@@ -1,5 +1,5 @@
 use Rattle.semver_core.proofs.Common.{[], ap, precedence, precedence_total, same_key, tied_itself, ◌∙◌}
-use Rattle.semver_core.proofs.{Common.is_le, Increments.LastNumber.{list_kept, list_overflows, list_raised}}
+use Rattle.semver_core.proofs.{Common.is_le}
 use Rattle.semver_core.proofs.Values.TotalOrders as order
 use Rattle.semver_core.proofs.Values.NextLaws as law
 use Rattle.semver_core.proofs.laws.order.order_and_increments.Goals as goal
@@ -26,12 +26,3 @@ returns-clause-tied c = λ v w. (
 
 pub returns-clause-pre_release : goal.returns-clause-pre_release
 returns-clause-pre_release c = law.next_of_pre_release
-
-pub returns-clause-raised : goal.returns-clause-raised
-returns-clause-raised c = list_raised
-
-pub returns-clause-overflow : goal.returns-clause-overflow
-returns-clause-overflow c = list_overflows
-
-pub returns-clause-kept : goal.returns-clause-kept
-returns-clause-kept c = list_kept

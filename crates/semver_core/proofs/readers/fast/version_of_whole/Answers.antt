@@ -1,5 +1,5 @@
-use Rattle.semver_core.proofs.Common.{Some, ap, sym, ◌∙◌}
-use Rattle.{std.proofs.lemmas.Result.MatchResult-from_err, semver_core.proofs.Text.Fronts.{lists_found, lists_left}}
+use Rattle.semver_core.proofs.Common.{sym}
+use Rattle.{std.proofs.lemmas.Result.MatchResult-from_err, semver_core.proofs.Text.Fronts.{lists_left}}
 use Rattle.semver_core.proofs.readers.fast.version_of_whole.Goals as goal
 
 pub returns-in_err-qualifier-clause-memory : goal.returns-in_err-qualifier-clause-memory
@@ -9,8 +9,3 @@ returns-in_err-qualifier-clause-memory c =
 pub returns-then-end-text-clause-found : goal.returns-then-end-text-clause-found
 returns-then-end-text-clause-found c =
     sym (lists_left c.args.text.now c.args.major c.args.minor c.args.patch c.args.at _ _ _ c.in_ok-qualifier.ensures.found c.if-end-text.true)
-
-pub returns-clause-found : goal.returns-clause-found
-returns-clause-found c =
-    ap Some c.from_parts.ensures
-    ∙ sym (lists_found c.args.text.now c.args.major c.args.minor c.args.patch c.args.at _ _ _ c.in_ok-qualifier.ensures.found c.if-end-text.false)

@@ -1,9 +1,6 @@
-use Rattle.semver_core.proofs.Common.{append-nil, arith, is_listed, length, listed, nat_tests, true, ◌<◌, ◌≡◌}
-use Rattle.semver_core.proofs.Text.Listed.{listed_all, listed_none, listed_utf8}
+use Rattle.semver_core.proofs.Common.{arith, is_listed, length, listed, nat_tests, true, ◌<◌, ◌≡◌}
+use Rattle.semver_core.proofs.Text.Listed.{listed_all, listed_utf8}
 use Rattle.semver_core.proofs.borrowed.identifiers.IdentifierRefs.copy_into.Goals as goal
-
-pub returns-in-Text-empty : goal.returns-in-Text-empty
-returns-in-Text-empty c = grind (arith, nat_tests, listed_none, append-nil)
 
 pub returns-in_ok-_end-in-Text : goal.returns-in_ok-_end-in-Text
 returns-in_ok-_end-in-Text c =
