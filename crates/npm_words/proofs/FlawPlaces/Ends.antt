@@ -4,7 +4,7 @@ use Rattle.npm_words.proofs.Common.{and_parts, ap, append_assoc, are_normal, ari
 use Rattle.npm_words.proofs.Common.{drop_spaces, encode_utf8_all, end_front, false, from_boundary, if◌then◌else◌, inr, is_empty, is_free}
 use Rattle.npm_words.proofs.Common.{is_free_lower, is_free_upper, is_mark, is_right, is_some, is_valid, last_end, length, length-append, list_all}
 use Rattle.npm_words.proofs.Common.{lower_of, nat_tests, refl, space_len, space_len-nil, subst, suc, sym, take_at, true, upper_of, zero, ℕ, ◌++◌, ◌+◌}
-use Rattle.npm_words.proofs.Common.{◌-◌, ◌>>?◌, ◌∙◌, ◌∷◌, ◌≡◌, ◌≤◌}
+use Rattle.npm_words.proofs.Common.{◌>>?◌, ◌∙◌, ◌∷◌, ◌≡◌, ◌≤◌}
 use Rattle.npm_words.proofs.{FlawPlaces.Ranges.one_malformed_word, Grammar.Hyphens.{dash-is, dash-of, end-found, end-normal, end-read, ends-found, ends-read}}
 use Rattle.npm_words.proofs.Grammar.{Hyphens.{free-capped, front-is, normal-capped, right-end}, Printed.{capped-valid, lower-invalid, upper-invalid}}
 use Rattle.npm_words.{proofs.Common.empty_is, specs.Internal.{Ends.{behind_end, is_lower, is_right_one, is_upper}, Words.after_dash}}
@@ -54,10 +54,6 @@ place-of text behind u p =
     let f = first-is m.0 (drop_ends text) (rw m.1 at u) in
     ap from_boundary same ∙ first-once p.0 _ behind (subst (λ (t : List ℕ). IsFirstBoundary t (from_boundary t)) same f) p.2
 
--- what is in front of what stands behind an end
-place-split : (text behind : List ℕ) → IsEndPlace text behind → (front : List ℕ) × (text ≡ front ++ behind)
-place-split text behind p = (p.1.0 ++ p.2.0, p.1.1 ∙ ap (λ (t : List ℕ). p.1.0 ++ t) p.2.1 ∙ sym (append_assoc p.1.0 p.2.0 behind))
-
 -- ---- the form of a hyphen range
 
 pub form-found : (text : List ℕ) (e : List ℕ × List ℕ) → IsUtf8 text → end_texts text ≡ Some e
@@ -67,15 +63,16 @@ form-found text e u h =
     let q = bind_some (after_dash (behind_end text)) _ e h in
     let c = cond_some (is_empty (behind_end q.0)) _ e q.2 in
     let p = place-is text u in
-    let split = place-split text (behind_end text) p in
-    let d = dash-is split.0 (behind_end text) q.0 (rw split.1 at u) q.1 in
+    let first = p.1.0 ++ p.2.0 in
+    let divided = p.1.1 ∙ ap (λ (t : List ℕ). p.1.0 ++ t) p.2.1 ∙ sym (append_assoc p.1.0 p.2.0 (behind_end text)) in
+    let d = dash-is first (behind_end text) q.0 (subst (λ (t : List ℕ). IsUtf8 t) divided u) q.1 in
     let whole = empty_is (behind_end q.0) c.0 in
-    let front = front-is text split.0 (behind_end text) split.1 in (
+    let front = front-is text first (behind_end text) divided in (
       record {
-        first = split.0;
+        first = first;
         before = behind_end text;
         second = q.0;
-        divided = split.1;
+        divided = divided;
         lower = p;
         dash = d.0;
         upper = rw whole at (place-is q.0 d.1);

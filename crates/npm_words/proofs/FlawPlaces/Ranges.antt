@@ -19,9 +19,6 @@ pub bytes-append : (ps : List (List ℕ)) (p : List ℕ) → bytes_of (ps ++ p �
 bytes-append [] p = omega arith
 bytes-append (q ∷ ps) p = omega (arith, bytes-append ps p)
 
-some-pieces : (text : List ℕ) (pieces : List (List ℕ)) → IsCutAtBars text pieces → is_empty pieces ≡ false
-some-pieces text pieces h = grind arith
-
 module _ (include : Bool) where
   abbrev Right : List ℕ → List ℕ → Type 0
   Right = IsRightWord MAX_SAFE_INTEGER include
@@ -128,7 +125,7 @@ module _ (include : Bool) where
   passed_all text h =
       let a = all-right (h.front ++ []) (rw (append-nil h.front) h.right) in
       let cut = rw h.divided at (bars_divide text) in
-      (a.0, record { parts = h.front ++ []; divided = cut; each = a.1; some = a.3 ∙ some-pieces text (h.front ++ []) cut; valid = a.2 })
+      (a.0, record { parts = h.front ++ []; divided = cut; each = a.1; some = a.3 ∙ grind (arith, cut); valid = a.2 })
 
   -- ---- a text has one such flaw
 

@@ -210,10 +210,8 @@ module _ (limit : ℕ) where
       grind (arith, pre-follows false is_strict_list pre (build ++ r) w.pre_release p ends) in
       let front = pre-taken false false is_strict_list pre (build ++ r) w.pre_release refl p ends in
       let c : Whole (Number 0 0) (pre ++ (build ++ r)) = qualified (pre ++ (build ++ r)) ∙ rw (front.1, front.3, (build-taken build r w.build q e).0) after in
-      let b : Whole (Digit 0) (z ++ (pre ++ (build ++ r))) = number-read less 0 _ z _ nine le k quiet ∙ c in
-      let a : Whole (Digit 1) (y ++ 46 ∷ (z ++ (pre ++ (build ++ r)))) = number-read less 1 _ y (46 ∷ _) nine le j refl ∙ b in
-      let all : Whole (Digit 2) (x ++ 46 ∷ (y ++ 46 ∷ (z ++ (pre ++ (build ++ r))))) = number-read less 2 _ x (46 ∷ _) nine le i refl ∙ a in
-      simp append_assoc (start-read less _ mark x _ m i ∙ all)
+      simp append_assoc (start-read less _ mark x _ m i ∙ number-read less 2 _ x (46 ∷ _) nine le i refl ∙ number-read less 1 _ y (46 ∷ _) nine le j refl
+      ∙ number-read less 0 _ z _ nine le k quiet ∙ c)
 
   pub spelled-read : (less : ℕ) (cs : List ℕ) → 9 ≤ limit → less ≤ limit → IsSpelled less (encode_utf8_all cs) → Whole Start cs
   spelled-read less cs nine le h =

@@ -4,8 +4,9 @@ use Rattle.npm_words.proofs.Common.{common_steps, drop, drop_at, empty_is, false
 use Rattle.npm_words.proofs.Common.{length-append, length-drop, nat_tests, not, prefix_len, refl, subst, suc, sym, take, take-append-drop, take_at}
 use Rattle.npm_words.proofs.Common.{take_rest, takes, true, zero, ℕ, ◌&&◌, ◌++◌, ◌-◌, ◌<◌, ◌==◌, ◌||◌, ◌∙◌, ◌∷◌, ◌≡◌, ◌≤◌}
 use Rattle.npm_words.proofs.Grammar.{Characters.empty-length, InsideParts.{inside-starts, partial-found, partial-less, partial-max, starts_place}}
-use Rattle.npm_words.{proofs.Grammar.{PartialLaw.prefix-all, Runs.{run-ends, run-exact, steps-go, steps-stop}}, specs.Internal.Inside.are_inside}
+use Rattle.npm_words.{proofs.Grammar.{Runs.{run-exact, steps-go, steps-stop}}, specs.Internal.Inside.are_inside}
 use Rattle.npm_words.specs.{Internal.{Inside.{behind_partial, from_place, is_apart}, Words.takes_on}, Malformed.{AreInside, IsInside, IsTaken}}
+use Rattle.semver_core.proofs.Text.Runs.{prefix_each, prefix_ends}
 use Rattle.{npm_words.specs.Malformed.{begins_place, more, none}, std.{proofs.Math.Bool.or-true, specs.List.{ends_with, position}}}
 
 -- ---- the first place
@@ -17,7 +18,7 @@ abbrev is_placed : List ℕ → Bool
 is_placed text = not (is_empty (from_place text))
 
 starts : (text : List ℕ) → is_placed text ≡ true → starts_place (from_place text) ≡ true
-starts text h = grind (arith, nat_tests, common_steps, run-ends is_apart text)
+starts text h = grind (arith, nat_tests, common_steps, prefix_ends is_apart text)
 
 -- what is left is shorter
 less : (text : List ℕ) → is_placed text ≡ true → length (behind_partial (from_place text)) < length text
@@ -82,7 +83,7 @@ inside-found (suc n) text k h = elim (cases_Bool (is_placed text)) [
       let each = inside-found n rest (omega (arith, k, less text on)) (rw on at (sym (step n text) ∙ h)) in
       let split : text ≡ take (prefix_len is_apart text) text ++ (f.piece ++ rest) =
       sym (take-append-drop (prefix_len is_apart text) text) ∙ ap (λ (t : List ℕ). take (prefix_len is_apart text) text ++ t) f.split in
-      subst AreInside (sym split) (more (take (prefix_len is_apart text) text) f.piece rest (prefix-all is_apart text) f.is
+      subst AreInside (sym split) (more (take (prefix_len is_apart text) text) f.piece rest (prefix_each is_apart text) f.is
       (λ y z e i. omega (arith, partial-max y z i, ap (λ t. length (behind_partial t)) (f.split ∙ e), ap length e, length-append y z, length-append f.piece rest)) each)
 ]
 

@@ -3,9 +3,9 @@ use Rattle.npm_words.proofs.Common.{Bool, List, [], all_weaker, and_parts, ap, a
 use Rattle.npm_words.proofs.Common.{cases_Bool, common_steps, drop, empty_is, false, has_leading_zero, if◌then◌else◌, inl, inr, is_ascii_digit}
 use Rattle.npm_words.proofs.Common.{is_empty, join_with_byte, length, length-append, length-drop, list_all, nat_tests, not, pieces, prefix_len, refl}
 use Rattle.npm_words.proofs.Common.{suc, sym, take, take-append-drop, take_rest, true, zero, ℕ, ◌&&◌, ◌++◌, ◌+◌, ◌<◌, ◌==◌, ◌||◌, ◌∙◌, ◌∷◌, ◌≡◌, ◌≤◌}
-use Rattle.npm_words.proofs.Grammar.{PartialLaw.prefix-all, Runs.{run-exact, run-many, steps-go, steps-stop}}
+use Rattle.npm_words.proofs.Grammar.{VersionLaw.At, Runs.{run-exact, run-many, steps-go, steps-stop, while-on}}
 use Rattle.{npm_words.specs.Internal.Inside.{begins_dotted_id, behind_id, behind_ids}, semver_core.proofs.Reading.Bytes.begins-some}
-use Rattle.semver_core.{proofs.{Reading.Qualifiers.byte-begins, Text.Runs.not_dot}, specs.Text.{Characters.is_identifier_char, Identifiers.goes_on}}
+use Rattle.semver_core.{proofs.{Reading.Qualifiers.byte-begins, Text.Runs.{not_dot, prefix_each}}, specs.Text.{Characters.is_identifier_char, Identifiers.goes_on}}
 use Rattle.{semver_core.specs.Text.Identifiers.is_identifier, std.proofs.lemmas.List.Splits.{join_with_byte-slice_split, length-slice_split}}
 
 pub drop-le : (n : ℕ) (x rest : List ℕ) → length x ≤ n → length (drop n (x ++ rest)) ≤ length rest
@@ -110,51 +110,38 @@ pieces-last : (id : List ℕ) → list_all is_identifier_char id ≡ true → pi
 pieces-last [] h = refl
 pieces-last (c ∷ id) h = grind (arith, common_steps, not_dot c, pieces-last id)
 
-record IdFound (strict : Bool) (text rest : List ℕ) : Type 0 where
-  id : List ℕ
-  split : text ≡ id ++ rest
-  good : is_good strict id ≡ true
-
-begins-char : (F : ℕ → Bool) (c : ℕ) (text : List ℕ) → F c ≡ true → take (prefix_len F (c ∷ text)) (c ∷ text) ≡ c ∷ take (prefix_len F text) text
-begins-char F c text h =
-    let e : 1 + prefix_len F text ≡ suc (prefix_len F text) = omega arith in rw (h, e) refl
-
-id-found : (strict : Bool) (text : List ℕ) → begins_identifier text ≡ true → IdFound strict text (behind_id strict text)
+id-found : (strict : Bool) (text : List ℕ) → begins_identifier text ≡ true → At (λ id s. is_good s id ≡ true) text strict (behind_id strict text)
 id-found strict [] h = cc h
 id-found strict (c ∷ text) h = rw (behind-is strict c text) (elim (cases_Bool (strict && (c == 48))) [
-  | inl null ↦ rw null (record { id = c ∷ []; split = refl; good = good-is strict c [] ∙ grind arith })
+  | inl null ↦ rw null (record { piece = c ∷ []; split = refl; is = good-is strict c [] ∙ grind arith })
   | inr plain ↦
       let n = prefix_len (class c) (c ∷ text) in
-      let first = begins-char (class c) c text (grind arith) in
+      let first = while-on (class c) c text (grind arith) in
       rw plain (record {
-        id = take n (c ∷ text);
+        piece = take n (c ∷ text);
         split = sym (take-append-drop n (c ∷ text));
-        good = rw first (good-is strict c _ ∙ rw (rw first at (prefix-all (class c) (c ∷ text)), plain) refl);
+        is = rw first (good-is strict c _ ∙ rw (rw first at (prefix_each (class c) (c ∷ text)), plain) refl);
       })
 ])
 
-pub record IdsFound (strict : Bool) (text rest : List ℕ) : Type 0 where
-  pub ids : List ℕ
-  pub split : text ≡ ids ++ rest
-  pub good : are_good strict ids ≡ true
-
-pub ids-found : (n : ℕ) (strict : Bool) (text : List ℕ) → begins_identifier text ≡ true → length text ≤ n → IdsFound strict text (behind_ids n strict text)
+pub ids-found : (n : ℕ) (strict : Bool) (text : List ℕ) → begins_identifier text ≡ true → length text ≤ n
+    → At (λ ids s. are_good s ids ≡ true) text strict (behind_ids n strict text)
 unfolding behind_ids
 ids-found zero strict text h k = absurd (omega (arith, k, begins-some is_identifier_char text h))
 ids-found (suc n) strict text h k =
     let one = id-found strict text h in
     let rest = behind_id strict text in
-    let each : list_all is_identifier_char one.id ≡ true = grind (arith, one.good) in
+    let each : list_all is_identifier_char one.piece ≡ true = grind (arith, one.is) in
     elim (cases_Bool (begins_dotted_id rest)) [
-      | inr stop ↦ rw stop (record { ids = one.id; split = one.split; good = rw (pieces-last one.id each, one.good) refl })
+      | inr stop ↦ rw stop (record { piece = one.piece; split = one.split; is = rw (pieces-last one.piece each, one.is) refl })
       | inl on ↦
           let p = and_parts (begins_byte 46 rest) (begins_identifier (drop 1 rest)) on in
           let r = ids-found n strict (drop 1 rest) p.1 (omega (arith, dot-less strict text on, k)) in
           rw on (record {
-            ids = one.id ++ 46 ∷ r.ids;
-            split = one.split ∙ ap (λ (t : List ℕ). one.id ++ t) (byte-begins 46 rest p.0 ∙ ap (λ (t : List ℕ). 46 ∷ t) r.split)
-                ∙ sym (append_assoc one.id (46 ∷ r.ids) (behind_ids n strict (drop 1 rest)));
-            good = rw (pieces-next one.id r.ids each, one.good) r.good;
+            piece = one.piece ++ 46 ∷ r.piece;
+            split = one.split ∙ ap (λ (t : List ℕ). one.piece ++ t) (byte-begins 46 rest p.0 ∙ ap (λ (t : List ℕ). 46 ∷ t) r.split)
+                ∙ sym (append_assoc one.piece (46 ∷ r.piece) (behind_ids n strict (drop 1 rest)));
+            is = rw (pieces-next one.piece r.piece each, one.is) r.is;
           })
     ]
 

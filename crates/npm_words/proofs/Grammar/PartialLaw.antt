@@ -14,6 +14,7 @@ use Rattle.npm_words.{proofs.Grammar.VersionLaw.{pre-taken, strict_is}, specs.{G
 use Rattle.{npm_words.specs.{Internal.Words.{places_front, third_front}, Table.Partial}, semver_core.proofs.Reading.Bytes.{is_solid, solid-dark}}
 use Rattle.semver_core.proofs.Reading.{Numbers.{digits-taken, number-found, number-is, number-no_wildcard}, Steps.option-cases}
 use Rattle.std.proofs.lemmas.List.Sums.{prefix_len-drop_all, prefix_len-drop_no, prefix_len-drop_yes}
+use Rattle.semver_core.proofs.Text.Runs.{prefix_each}
 use Rattle.npm_words.specs.Partials as Text
 
 pub ruleset prefix_steps = (prefix_len-drop_all, prefix_len-drop_no, prefix_len-drop_yes)
@@ -26,16 +27,10 @@ some-run run h = grind (arith, nat_tests, common_steps)
 pub digits-begin : (digits : List ℕ) → 0 < length digits → list_all is_ascii_digit digits ≡ true → begins is_ascii_digit digits ≡ true
 digits-begin digits some each = grind arith
 
-prefix-of : (p : ℕ → Bool) (k : ℕ) (text : List ℕ) → k ≤ prefix_len p text → list_all p (take k text) ≡ true
+pub prefix-of : (p : ℕ → Bool) (k : ℕ) (text : List ℕ) → k ≤ prefix_len p text → list_all p (take k text) ≡ true
 prefix-of p zero text h = refl
 prefix-of p (suc k) [] h = refl
 prefix-of p (suc k) (c ∷ text) h = grind (arith, nat_tests, common_steps, prefix-of p k text)
-
-pub prefix-all : (p : ℕ → Bool) (text : List ℕ) → list_all p (take_while p text) ≡ true
-prefix-all p text = prefix-of p (prefix_len p text) text (omega arith)
-
-pub digits-of : (k : ℕ) (text : List ℕ) → k ≤ prefix_len is_ascii_digit text → list_all is_ascii_digit (take k text) ≡ true
-digits-of k text h = prefix-of is_ascii_digit k text h
 
 pub digits_all : (text : List ℕ) → nat_lt (prefix_len is_ascii_digit text) (length text) ≡ not (list_all is_ascii_digit text)
 digits_all [] = refl
@@ -105,7 +100,7 @@ cut-found loose k text a rest h e =
     elim (cases_Bool (not (is_empty run) && (loose || nat_le (length run) 257) && is_spelled loose run)) [
       | inr none ↦ cc (rw none at e)
       | inl good ↦
-          let f = run-place loose run (digits-of k text h) good in
+          let f = run-place loose run (prefix-of is_ascii_digit k text h) good in
           grind (arith, take-append-drop k text)
     ]
 
@@ -216,7 +211,7 @@ pub run-leading : (text : List ℕ) → has_leading_zero (take_while is_ascii_di
 run-leading text = grind (arith, nat_tests, common_steps)
 
 -- a number up to the limit
-number-valued : (loose : Bool) (text : List ℕ) (n : ℕ) (rest : List ℕ) → number_front MAX_SAFE_INTEGER text ≡ Some (n, rest)
+pub number-valued : (loose : Bool) (text : List ℕ) (n : ℕ) (rest : List ℕ) → number_front MAX_SAFE_INTEGER text ≡ Some (n, rest)
     → (not loose && begins_padded text) ≡ false → (loose || nat_le (prefix_len is_ascii_digit text) 257) ≡ true
     → (place_front loose text ≡ Some (Some n, rest)) × (nat_le n MAX_SAFE_INTEGER ≡ true)
 number-valued loose text n rest h spelled short =
@@ -225,11 +220,6 @@ number-valued loose text n rest h spelled short =
     let few : (loose || nat_le (length f.run) 257) ≡ true = grind (arith, digits-taken) in
     let place : IsPlace loose f.run (Some n) = Text.number f.run n same (grind (arith, nat_tests, padded-same)) few in
     (grind (arith, nat_tests, common_steps, place-read), grind (arith, nat_tests, f.is.safe))
-
-pub valued_placed : (loose : Bool) (text : List ℕ) (n : ℕ) (rest : List ℕ) → number_front MAX_SAFE_INTEGER text ≡ Some (n, rest)
-    → (not loose && begins_padded text) ≡ false → (loose || nat_le (prefix_len is_ascii_digit text) 257) ≡ true
-    → first_as capped_one (place_front loose text) ≡ Some (Some n, rest)
-valued_placed loose text n rest h spelled short = let v = number-valued loose text n rest h spelled short in rw (v.0, v.1) refl
 
 -- without leading zeros
 pub number-read : (loose : Bool) (text : List ℕ) (n : ℕ) (rest : List ℕ) → number_with false MAX_SAFE_INTEGER text ≡ Some (n, rest)
@@ -242,10 +232,6 @@ number-read loose text n rest h =
     let short = number-short run n (i, run-leading text ∙ bare) in
     number-valued loose text n rest k (rw bare (and-false (not loose))) (grind (arith, nat_tests, short, length-prefix_len is_ascii_digit text))
 
-pub number_placed : (loose : Bool) (text : List ℕ) (n : ℕ) (rest : List ℕ) → number_with false MAX_SAFE_INTEGER text ≡ Some (n, rest)
-    → first_as capped_one (place_front loose text) ≡ Some (Some n, rest)
-number_placed loose text n rest h = let v = number-read loose text n rest h in rw (v.0, v.1) refl
-
 pub wildcard_read : (loose : Bool) (text : List ℕ) → begins_wildcard text ≡ true → place_front loose text ≡ Some (None, drop 1 text)
 unfolding place_front
 wildcard_read loose text h = rw h refl
@@ -255,11 +241,11 @@ pub great_placed : (loose : Bool) (text : List ℕ) (at : ℕ) → number_front 
     → first_as capped_one (place_front loose text) ≡ Some (Some (MAX_SAFE_INTEGER + 1), take (length text - at) (drop at text))
 unfolding number_of
 great_placed loose text at front dark bare is first last =
-    grind (arith, nat_tests, common_steps, place_run, run-leading, length-prefix_len, prefix-all, some-run, take_rest)
+    grind (arith, nat_tests, common_steps, place_run, run-leading, length-prefix_len, prefix_each, some-run, take_rest)
 
-pub ruleset places_found = (number_placed, wildcard_read)
+pub ruleset places_found = (number-read, wildcard_read)
 
-pub ruleset padded_places = (valued_placed, strict_is, run-leading, place_run, length-prefix_len, nat_tests)
+pub ruleset padded_places = (number-valued, strict_is, run-leading, place_run, length-prefix_len, nat_tests)
 
 -- ---- the third place
 
@@ -275,7 +261,7 @@ pub patch_cut : (loose : Bool) (text : List ℕ) (at own : ℕ) (o : Front (Opti
     → (loose && begins_byte 46 (drop at text)) ≡ true → own ≡ at - 1 → o ≡ first_as capped_one (place_front loose (take own text))
     → (o >>? λ p. Some (p.0, take (length text - own) (drop own text))) ≡ first_as capped_one (patch_place loose text)
 unfolding patch_place
-patch_cut loose text at own o e h less is = grind (arith, nat_tests, common_steps, digits-of, run-alone, take_rest)
+patch_cut loose text at own o e h less is = grind (arith, nat_tests, common_steps, prefix-of is_ascii_digit, run-alone, take_rest)
 
 -- ---- partial versions as the code has them
 

@@ -9,7 +9,7 @@ use Rattle.npm_words.proofs.Common.{is_strict_identifier, is_valid, is_zero, joi
 use Rattle.npm_words.proofs.Common.{nat_le, nat_tests, no_build, no_pre_release, pieces, refl, release, subst, sym, true, under, version_text, whole}
 use Rattle.npm_words.proofs.{Common.{within, ℕ, ◌&&◌, ◌++◌, ◌+◌, ◌<◌, ◌==◌, ◌^◌, ◌||◌, ◌∙◌, ◌∷◌, ◌≡◌, ◌≤◌}, FlawPlaces.Read.plain-encodes}
 use Rattle.npm_words.{proofs.{FlawPlaces.Read.{plain-middle, plain-trim}, Grammar.VersionLaw.{digits_printed, number_printed}}, specs.Grammar.written}
-use Rattle.{npm_words.specs.{Internal.Words.capped, Table.{Partial, Sign, lowest, table}}, semver_core.proofs.Printing.Returns.decimal_digits}
+use Rattle.{npm_words.specs.{Table.{Partial, Sign, lowest, table}}, semver_core.proofs.Printing.Returns.decimal_digits}
 use Rattle.semver_core.{proofs.Printing.Returns.decimal_some, specs.{Internal.CommonReading.is_plain, Text.Identifiers.is_u64_text}}
 use Rattle.std.proofs.lemmas.{Fmt.{decimal_digit, decimal_injective, length-decimal-le}, List.Splits.{join_with_byte-slice_split, length-slice_split}}
 use Rattle.std.{proofs.lemmas.Str.{IsUtf8-from_ascii, chars-IsAscii}, specs.Str.IsAscii}
@@ -91,11 +91,8 @@ upper-invalid c include p text h = grind (arith, nat_tests, common_steps, table-
 
 -- ---- numbers past the limit as the code has them
 
-capped-le : (n : ℕ) → nat_le (capped n) MAX_SAFE_INTEGER ≡ nat_le n MAX_SAFE_INTEGER
-capped-le n = grind arith
-
 pub capped-within : (p : Partial) → within (first (capped_partial p)) ≡ within (first p)
-capped-within p = grind (arith, capped-le)
+capped-within p = grind arith
 
 pub capped-same : (p : Partial) → within (first p) ≡ true → capped_partial p ≡ p
 capped-same p h = grind arith

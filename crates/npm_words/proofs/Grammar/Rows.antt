@@ -4,9 +4,9 @@ use Rattle.npm_words.proofs.Common.{AreRead, Before, Bool, Bound, Bounds, Compar
 use Rattle.npm_words.proofs.Common.{MAX_SAFE_INTEGER, None, Numbers, Option, Some, Span, Unbounded, VersionValue, [], ap, ap₂, are_normal, arith}
 use Rattle.npm_words.proofs.Common.{at_least, at_most, below, both_ways, bytes_eq, bytes_eq-Decides, caret_from, cases_Bool, codes, common_steps}
 use Rattle.npm_words.proofs.Common.{compared, counted, counts, equal, false, filter-append, first, from, greater_lower, holds, if◌then◌else◌, inl}
-use Rattle.npm_words.proofs.Common.{inr, interval, is_empty, is_gt, is_interval, is_past, is_range_bound, is_readable, is_valid, is_zero, length}
-use Rattle.npm_words.proofs.Common.{lesser_upper, lets_in, list_all, lower_cut, map, nat_le, nat_tests, next_changed, not, precedence}
-use Rattle.npm_words.proofs.Common.{precedence_total, refl, sym, true, under, upper_cut, version_text, whole, within, ℕ, ◌&&◌, ◌++◌, ◌+◌, ◌||◌, ◌∙◌}
+use Rattle.npm_words.proofs.Common.{inr, interval, is_empty, is_gt, is_interval, is_past, is_readable, is_valid, is_zero, length}
+use Rattle.npm_words.proofs.Common.{lets_in, list_all, lower_cut, map, nat_le, nat_tests, next_changed, not, precedence}
+use Rattle.npm_words.proofs.Common.{precedence_total, refl, sym, true, under, upper_cut, version_text, whole, within, ℕ, ◌&&◌, ◌++◌, ◌||◌, ◌∙◌}
 use Rattle.npm_words.{proofs.{Common.{◌∷◌, ◌≡◌, ◌⊎◌}, Grammar.Printed.{from_valid, prints_zero, under_valid}}, specs.Alternatives.common}
 use Rattle.npm_words.specs.{Alternatives.satisfying, Internal.{Alternatives.met, Meaning.{common_in, is_part}, Parts.{AreZeros, has_no_comparators}}}
 use Rattle.npm_words.specs.{Internal.Parts.{is_padded, no_build, noted}, Table.{Partial, Sign, caret, lowest, next, table, tilde, unbuilt}}
@@ -46,11 +46,6 @@ pub uncounted_common : (include : Bool) (c : Comparison) → counts include c �
 uncounted_common include c h = record { is = rw h refl; lower = refl; upper = refl }
 
 -- ---- two lists
-
--- the bounds of two spans together are bounds of these
-kept : (F : Bound VersionValue → Bool) (b c : Bound VersionValue) → F b ≡ true → F c ≡ true
-    → (F (greater_lower precedence b c) ≡ true) × (F (lesser_upper precedence b c) ≡ true)
-kept F b c h k = (grind arith, grind arith)
 
 pub holds-both : (s t : Span VersionValue) (v : VersionValue) → holds precedence (both s t) v ≡ (holds precedence s v && holds precedence t v)
 holds-both s t v =
@@ -116,8 +111,8 @@ module _ (include : Bool) (cs ds : List Comparison) where
   pub both_common : (s t : Span VersionValue) → IsCommon include cs s → IsCommon include ds t → IsCommon include (cs ++ ds) (both s t)
   both_common s t h k = record {
     is = ap₂ both h.is k.is ∙ sym common-both;
-    lower = (kept (is_range_bound (MAX_SAFE_INTEGER + 1)) s.lower t.lower h.lower k.lower).0;
-    upper = (kept (is_range_bound (MAX_SAFE_INTEGER + 1)) s.upper t.upper h.upper k.upper).1;
+    lower = grind (arith, h.lower, k.lower);
+    upper = grind (arith, h.upper, k.upper);
   }
 
   -- the bounds of more comparators, which may be no interval

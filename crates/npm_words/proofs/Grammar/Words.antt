@@ -151,8 +151,8 @@ first-read loose include text rest cs u (ignored behind l some absent i s) =
       | inr w ↦ absurd (absent (drop (marks_len w.0.0.2) w.0.0.2) w.0.1 (table include w.0.0.0 w.0.0.1 w.0.0.2)
           (signed-found loose include text w.0.0 w.0.1 u w.1).is)
     ] in
-    let end = ignored-read (length text) text behind u i (omega arith) in
-    rw (none, l, end) (ap (λ (t : List ℕ). Some (None, t)) (skips-of behind rest (rw end at (ignored-found (length text) text u (omega arith)).utf8) s))
+    let end = ignored-read text behind u i in
+    rw (none, l, end) (ap (λ (t : List ℕ). Some (None, t)) (skips-of behind rest (rw end at (ignored-found text u).utf8) s))
 
 -- what is read at the front
 pub record FirstAt (loose include : Bool) (text : List ℕ) (cs : Option (List Comparison)) (rest : List ℕ) : Type 0 where
@@ -173,13 +173,13 @@ first-found loose include text cs rest u some h = go (signed_word loose text) re
     go None e k =
         let end = behind_ignored (length text) text in
         let t = cond_some loose (None, drop_spaces end) (cs, rest) k in
-        let i = ignored-found (length text) text u (omega arith) in
+        let i = ignored-found text u in
         let s = skipped end i.utf8 in
         let absent : (partial behind : List ℕ) → NoValue (BeginsWord loose include text partial behind) = λ partial behind ds w.
         let r = word-read loose include w.0 partial behind ds w.2 (boundary-of behind w.3) in
         cc (e, ap (λ (t : List ℕ). signed_word loose t) w.1 ∙ r.read) in
         subst (λ (r : Option (List Comparison) × List ℕ). FirstAt loose include text r.0 r.1) t.1
-        (record { is = ignored end t.0 (grind (arith, nat_tests)) absent i.is s.0; utf8 = s.1; shorter = i.less some })
+        (record { is = ignored end t.0 (grind (arith, nat_tests)) absent i.is s.0; utf8 = s.1; shorter = omega (arith, i.less, some) })
     go (Some w) e k =
         let t = cond_some (is_short_word loose w.0.2) (Some (table include w.0.0 w.0.1 w.0.2), drop_spaces w.1) (cs, rest) k in
         let f = signed-found loose include text w.0 w.1 u e in

@@ -1,17 +1,21 @@
 -- Worked rows, computed: node-semver's table, which versions a list of alternatives accepts, and which texts are versions.
-use Rattle.npm_words.proofs.Common.{AlphaNumeric, AreWords, BeginsWord, Bool, Comparison, Id, IsBlank, IsPlaces, IsWord, List, None, Numeric, Option}
-use Rattle.npm_words.proofs.Common.{Some, VersionValue, [], above, after_ends, after_spaces, alternative_of, alternatives_of, append-nil, are_marks}
-use Rattle.npm_words.proofs.Common.{at_least, at_most, begins_undashed, behind_ignored, below, build_front, caret_equal, codes, compared, digits}
-use Rattle.npm_words.proofs.Common.{dotted_patch, dotted_place, encode_utf8, end_front, equal, false, first_word, from_boundary, hyphen_ends}
-use Rattle.npm_words.proofs.Common.{hyphen_lower, hyphen_upper, inl, is_boundary, is_lost, is_short, is_some, is_spelled, is_valid, join_with_byte}
-use Rattle.npm_words.proofs.Common.{late_above, length, list_len, listed, lit<, lit≤, major, map, may_stand, minor, none, npm_sign, number_of}
-use Rattle.npm_words.proofs.Common.{number_with, one, patch_front, patch_place, place_front, pre_front, pre_release_front, pre_release_with}
-use Rattle.npm_words.proofs.Common.{qualified_partial, qualified_version, refl, release_value, sign, signed_word, space_len, spelling, sym}
-use Rattle.npm_words.proofs.Common.{tilde_twice, true, tuple_len, tuple_release, whole, whole_version, wildcard, word, words_within, ℕ, ◌++◌, ◌>>?◌}
-use Rattle.npm_words.{proofs.{Common.{◌∷◌, ◌≡◌}, Grammar.Ignored.no-blank}, specs.{Alternatives.accepts, Internal.Inside.{are_inside, behind_id}}}
+use Rattle.npm_words.proofs.Common.{AlphaNumeric, AreWords, Bool, Comparison, Id, List, None, Numeric, Option}
+use Rattle.npm_words.proofs.Common.{Some, VersionValue, [], above, after_ends, after_spaces, alternative_of, alternatives_of, are_marks}
+use Rattle.npm_words.proofs.Common.{at_least, at_most, begins_undashed, behind_ignored, below, build_front, codes, compared, digits}
+use Rattle.npm_words.proofs.Common.{dotted_patch, dotted_place, end_front, equal, false, first_word, from_boundary, hyphen_ends}
+use Rattle.npm_words.proofs.Common.{hyphen_lower, hyphen_upper, is_boundary, is_lost, is_some, is_spelled, is_valid, join_with_byte}
+use Rattle.npm_words.proofs.Common.{length, list_len, listed, major, map, may_stand, minor, npm_sign, number_of}
+use Rattle.npm_words.proofs.Common.{number_with, patch_front, patch_place, place_front, pre_front, pre_release_front, pre_release_with}
+use Rattle.npm_words.proofs.Common.{qualified_partial, qualified_version, refl, release_value, signed_word, space_len, spelling}
+use Rattle.npm_words.proofs.Common.{true, tuple_len, tuple_release, whole, whole_version, wildcard, words_within, ℕ, ◌++◌, ◌>>?◌}
+use Rattle.npm_words.{proofs.{Common.{◌∷◌, ◌≡◌}}, specs.{Alternatives.accepts, Internal.Inside.{are_inside, behind_id}}}
 use Rattle.npm_words.specs.Internal.{Inside.{behind_ids, behind_partial, behind_place, behind_places, behind_pre_release}, Words.places_front}
-use Rattle.npm_words.specs.{Internal.Words.takes_on, Partials.number, RangeText.{formed, more}, Table.{Partial, Sign, caret, table, tilde}}
+use Rattle.npm_words.specs.{Internal.Words.takes_on, Table.{Partial, Sign, caret, table, tilde}}
 use Rattle.npm_words.specs.Table.{written_zeros}
+use Rattle.npm_words.proofs.Grammar.Words.{words-found}
+use Rattle.std.proofs.lemmas.Str.{IsUtf8-from_ascii}
+use Rattle.std.specs.Str.{IsAscii}
+use Rattle.npm_words.proofs.Common.{arith, common_steps, list_all, nat_lt, nat_tests}
 
 -- ---- the table, as node-semver prints the range of each word
 
@@ -36,21 +40,17 @@ partials include = map (row include)
     ∷ (compared above, major 1, codes "1") ∷ (compared above, minor 1 2, codes "1.2") ∷ (compared below, major 1, codes "1")
     ∷ (compared below, minor 1 2, codes "1.2") ∷ (compared at_most, major 1, codes "1") ∷ (compared at_most, minor 1 2, codes "1.2") ∷ [])
 
--- without pre-releases included: `1`, `1.2`, `^1`, `^0.2`, `^1.2`, `~1`, `~1.2`, `>=1`, `>1`, `>1.2`, `<1`, `<1.2`, `<=1`, `<=1.2`
-row-partials : partials false
+-- `1`, `1.2`, `^1`, `^0.2`, `^1.2`, `~1`, `~1.2`, `>=1`, `>1`, `>1.2`, `<1`, `<1.2`, `<=1`, `<=1.2`, without pre-releases included and with them
+row-partials : (partials false
     ≡ codes ">=1.0.0 <2.0.0-0" ∷ codes ">=1.2.0 <1.3.0-0" ∷ codes ">=1.0.0 <2.0.0-0" ∷ codes ">=0.2.0 <0.3.0-0" ∷ codes ">=1.2.0 <2.0.0-0"
     ∷ codes ">=1.0.0 <2.0.0-0" ∷ codes ">=1.2.0 <1.3.0-0" ∷ codes ">=1.0.0" ∷ codes ">=2.0.0" ∷ codes ">=1.3.0"
-    ∷ codes "<1.0.0-0" ∷ codes "<1.2.0-0" ∷ codes "<2.0.0-0" ∷ codes "<1.3.0-0" ∷ []
-unfolding digits written_zeros
-row-partials = refl
-
--- the same with them
-row-partials_included : partials true
+    ∷ codes "<1.0.0-0" ∷ codes "<1.2.0-0" ∷ codes "<2.0.0-0" ∷ codes "<1.3.0-0" ∷ [])
+    × (partials true
     ≡ codes ">=1.0.0-0 <2.0.0-0" ∷ codes ">=1.2.0-0 <1.3.0-0" ∷ codes ">=1.0.0-0 <2.0.0-0" ∷ codes ">=0.2.0-0 <0.3.0-0" ∷ codes ">=1.2.0-0 <2.0.0-0"
     ∷ codes ">=1.0.0 <2.0.0-0" ∷ codes ">=1.2.0 <1.3.0-0" ∷ codes ">=1.0.0-0" ∷ codes ">=2.0.0-0" ∷ codes ">=1.3.0-0"
-    ∷ codes "<1.0.0-0" ∷ codes "<1.2.0-0" ∷ codes "<2.0.0-0" ∷ codes "<1.3.0-0" ∷ []
+    ∷ codes "<1.0.0-0" ∷ codes "<1.2.0-0" ∷ codes "<2.0.0-0" ∷ codes "<1.3.0-0" ∷ [])
 unfolding digits written_zeros
-row-partials_included = refl
+row-partials = (refl, refl)
 
 -- `^1.2.3`, `^0.2.3`, `^0.0.3`, `^0.0.3-a` and `~1.2.3-a`, without pre-releases included and with them
 abbrev carets : Bool → List (List ℕ)
@@ -58,15 +58,12 @@ carets include = map (row include)
     ((caret, plain 1 2 3, codes "1.2.3") ∷ (caret, plain 0 2 3, codes "0.2.3") ∷ (caret, plain 0 0 3, codes "0.0.3")
     ∷ (caret, whole (lettered 0 0 3), codes "0.0.3-a") ∷ (tilde, whole (lettered 1 2 3), codes "1.2.3-a") ∷ [])
 
-row-carets : carets false ≡ codes ">=1.2.3 <2.0.0-0" ∷ codes ">=0.2.3 <0.3.0-0" ∷ codes ">=0.0.3 <0.0.4-0" ∷ codes ">=0.0.3-a <0.0.4-0"
-    ∷ codes ">=1.2.3-a <1.3.0-0" ∷ []
+row-carets : (carets false ≡ codes ">=1.2.3 <2.0.0-0" ∷ codes ">=0.2.3 <0.3.0-0" ∷ codes ">=0.0.3 <0.0.4-0" ∷ codes ">=0.0.3-a <0.0.4-0"
+    ∷ codes ">=1.2.3-a <1.3.0-0" ∷ [])
+    × (carets true ≡ codes ">=1.2.3 <2.0.0-0" ∷ codes ">=0.2.3-0 <0.3.0-0" ∷ codes ">=0.0.3-0 <0.0.4-0"
+    ∷ codes ">=0.0.3-a <0.0.4-0" ∷ codes ">=1.2.3-a <1.3.0-0" ∷ [])
 unfolding digits written_zeros
-row-carets = refl
-
-row-carets_included : carets true ≡ codes ">=1.2.3 <2.0.0-0" ∷ codes ">=0.2.3-0 <0.3.0-0" ∷ codes ">=0.0.3-0 <0.0.4-0"
-    ∷ codes ">=0.0.3-a <0.0.4-0" ∷ codes ">=1.2.3-a <1.3.0-0" ∷ []
-unfolding digits written_zeros
-row-carets_included = refl
+row-carets = (refl, refl)
 
 -- loosely, zero as several digits: `^00.1.2`, `^0.00.3`, `^v00.1`, and `>=00`, `^0.00`, `~0.0.00` and `0.0`
 abbrev zeros_padded : Bool → List (List ℕ)
@@ -75,15 +72,12 @@ zeros_padded include = map (row include)
     ∷ (compared at_least, major 0, codes "00") ∷ (caret, minor 0 0, codes "0.00") ∷ (tilde, plain 0 0 0, codes "0.0.00")
     ∷ (compared equal, minor 0 0, codes "0.0") ∷ [])
 
-row-zeros_padded : zeros_padded false ≡ codes ">=0.1.2 <1.0.0-0" ∷ codes ">=0.0.3 <0.1.0-0" ∷ codes ">=0.1.0 <1.0.0-0" ∷ codes ">=00.0.0"
-    ∷ codes ">=00.0.0 <0.1.0-0" ∷ codes ">=00.0.0 <0.1.0-0" ∷ codes ">=0.0.0 <0.1.0-0" ∷ []
+row-zeros_padded : (zeros_padded false ≡ codes ">=0.1.2 <1.0.0-0" ∷ codes ">=0.0.3 <0.1.0-0" ∷ codes ">=0.1.0 <1.0.0-0" ∷ codes ">=00.0.0"
+    ∷ codes ">=00.0.0 <0.1.0-0" ∷ codes ">=00.0.0 <0.1.0-0" ∷ codes ">=0.0.0 <0.1.0-0" ∷ [])
+    × (zeros_padded true ≡ codes ">=0.1.2 <1.0.0-0" ∷ codes ">=0.0.3-0 <0.1.0-0" ∷ codes ">=0.1.0-0 <1.0.0-0"
+    ∷ codes ">=0.0.0-0" ∷ codes ">=0.0.0-0 <0.1.0-0" ∷ codes ">=00.0.0 <0.1.0-0" ∷ codes ">=0.0.0-0 <0.1.0-0" ∷ [])
 unfolding digits written_zeros
-row-zeros_padded = refl
-
-row-zeros_padded_included : zeros_padded true ≡ codes ">=0.1.2 <1.0.0-0" ∷ codes ">=0.0.3-0 <0.1.0-0" ∷ codes ">=0.1.0-0 <1.0.0-0"
-    ∷ codes ">=0.0.0-0" ∷ codes ">=0.0.0-0 <0.1.0-0" ∷ codes ">=00.0.0 <0.1.0-0" ∷ codes ">=0.0.0-0 <0.1.0-0" ∷ []
-unfolding digits written_zeros
-row-zeros_padded_included = refl
+row-zeros_padded = (refl, refl)
 
 -- a wildcard ends the numbers, and a pre-release does
 row-written_zeros : map written_zeros (codes "0" ∷ codes "= 0.x.0" ∷ codes "0.10" ∷ codes "0.0.0-a.0" ∷ codes "1.0.0" ∷ [])
@@ -102,13 +96,10 @@ abbrev hyphens : Bool → List (List ℕ)
 hyphens include = map (λ (row : Partial × Partial). printed (hyphen_lower at_least include row.0 (codes "1.2.3") ++ hyphen_upper at_most include row.1 (codes "2.3.4")))
     ((major 1, major 2) ∷ (plain 1 2 3, plain 2 3 4) ∷ (major 1, whole (lettered 2 3 4)) ∷ [])
 
-row-hyphens : hyphens false ≡ codes ">=1.0.0 <3.0.0-0" ∷ codes ">=1.2.3 <=2.3.4" ∷ codes ">=1.0.0 <=2.3.4-a" ∷ []
+row-hyphens : (hyphens false ≡ codes ">=1.0.0 <3.0.0-0" ∷ codes ">=1.2.3 <=2.3.4" ∷ codes ">=1.0.0 <=2.3.4-a" ∷ [])
+    × (hyphens true ≡ codes ">=1.0.0-0 <3.0.0-0" ∷ codes ">=1.2.3-0 <2.3.5-0" ∷ codes ">=1.0.0-0 <=2.3.4-a" ∷ [])
 unfolding digits written_zeros
-row-hyphens = refl
-
-row-hyphens_included : hyphens true ≡ codes ">=1.0.0-0 <3.0.0-0" ∷ codes ">=1.2.3-0 <2.3.5-0" ∷ codes ">=1.0.0-0 <=2.3.4-a" ∷ []
-unfolding digits written_zeros
-row-hyphens_included = refl
+row-hyphens = (refl, refl)
 
 -- ---- which versions are accepted
 
@@ -159,40 +150,26 @@ row-limit = refl
 
 -- ---- how words are written
 
-blank : IsBlank (codes " ")
-unfolding encode_utf8
-blank = record { characters = 32 ∷ []; each = refl; spelled = refl }
+-- a text is these words, since they are what is read of it
+read_words : (loose : Bool) (text : List ℕ) (all : List (Option (List Comparison))) → list_all (λ b. nat_lt b 128) text ≡ true
+    → words_within loose false (length text) text ≡ Some all → AreWords loose false text all
+read_words loose text all low h =
+    let ascii : IsAscii text = grind (arith, nat_tests, common_steps) in words-found loose false (length text) text all (IsUtf8-from_ascii text ascii) h
 
-no_blank : IsBlank []
-no_blank = record { characters = []; each = refl; spelled = refl }
+-- `> =1` is `>=1`, `^ = 1` is `^1`, `~> >1` is `~1`, and loosely `^01` is `^1`
+row-words : AreWords false false (codes "> =1") (Some (table false (compared at_least) (major 1) (codes "1")) ∷ [])
+    × AreWords false false (codes "^ = 1") (Some (table false caret (major 1) (codes "1")) ∷ [])
+    × AreWords false false (codes "~> >1") (Some (table false tilde (major 1) (codes "1")) ∷ [])
+    × AreWords true false (codes "^01") (Some (table false caret (major 1) (codes "01")) ∷ [])
+unfolding words_within first_word signed_word is_boundary space_len after_spaces npm_sign places_front place_front dotted_place
+row-words = (
+  read_words false (codes "> =1") _ refl refl,
+  read_words false (codes "^ = 1") _ refl refl,
+  read_words false (codes "~> >1") _ refl refl,
+  read_words true (codes "^01") _ refl refl,
+)
 
-one_is : IsPlaces false (codes "1") (major 1)
-one_is = one (codes "1") (Some 1) (number (codes "1") 1 (record { some = lit< tt; each = refl; value = refl; safe = lit≤ tt }) refl refl)
-
--- words of one word, that ends the text
-words-one : (loose : Bool) (text partial : List ℕ) (cs : List Comparison) → IsWord loose false text partial cs → is_short loose partial ≡ true
-    → AreWords loose false text (Some cs ∷ [])
-words-one loose text partial cs h short =
-    let w : BeginsWord loose false text partial [] cs = (text, sym (append-nil text), h, inl refl) in
-    more text [] (Some cs) [] (formed partial [] cs w short ([], refl, no_blank, no-blank)) none
-
--- `> =1` is `>=1`, `^ = 1` is `^1` and `~> >1` is `~1`
-row-late : AreWords false false (codes "> =1") (Some (table false (compared at_least) (major 1) (codes "1")) ∷ [])
-row-late = words-one false _ _ _ (word (codes "> =") [] (codes "1") (compared at_least) (major 1) (late_above (codes " ") blank) refl refl one_is) refl
-
-row-caret_equal : AreWords false false (codes "^ = 1") (Some (table false caret (major 1) (codes "1")) ∷ [])
-row-caret_equal =
-    words-one false _ _ _ (word (codes "^ = ") [] (codes "1") caret (major 1) (caret_equal (codes " ") (codes " ") blank blank) refl refl one_is) refl
-
-row-tilde_twice : AreWords false false (codes "~> >1") (Some (table false tilde (major 1) (codes "1")) ∷ [])
-row-tilde_twice = words-one false _ _ _
-    (word (codes "~> >") [] (codes "1") tilde (major 1) (tilde_twice above (codes " ") [] blank (lit< tt) no_blank (inl refl)) refl refl one_is) refl
-
--- loosely `^01` is `^1`, `01` stands for no number strictly, and `00` for none
-row-leading : AreWords true false (codes "^01") (Some (table false caret (major 1) (codes "01")) ∷ [])
-row-leading = words-one true _ _ _ (word (codes "^") [] (codes "01") caret (major 1) (sign caret [] no_blank) refl refl
-    (one (codes "01") (Some 1) (number (codes "01") 1 (record { some = lit< tt; each = refl; value = refl; safe = lit≤ tt }) refl refl))) refl
-
+-- strictly `01` stands for no number, and `00` for none
 row-spelled : is_spelled true (codes "01") ∷ is_spelled false (codes "01") ∷ is_spelled true (codes "00") ∷ is_spelled false (codes "00")
     ∷ is_spelled false (codes "0") ∷ [] ≡ true ∷ false ∷ true ∷ false ∷ true ∷ []
 row-spelled = refl

@@ -5,7 +5,7 @@ use Rattle.npm_words.proofs.Common.{cases_lt, common_steps, drop, drop-append-ad
 use Rattle.npm_words.proofs.Common.{is_ascii_digit, length, length-append, length-prefix_len, length-take-le, list_all, listed, nat_le, nat_tests}
 use Rattle.npm_words.proofs.Common.{number_front, number_with, option_map, prefix_len, refl, same_Some, subst, sym, take, take-append-drop, take_at}
 use Rattle.npm_words.proofs.Common.{take_rest, true, tuple_len, tuple_release, ℕ, ◌++◌, ◌+◌}
-use Rattle.npm_words.proofs.{Common.{◌-◌, ◌<◌, ◌==◌, ◌>>?◌, ◌∙◌, ◌∷◌, ◌≡◌, ◌≤◌}, Grammar.{Characters.last-byte, PartialLaw.digits-of}}
+use Rattle.npm_words.proofs.{Common.{◌-◌, ◌<◌, ◌==◌, ◌>>?◌, ◌∙◌, ◌∷◌, ◌≡◌, ◌≤◌}, Grammar.{Characters.last-byte, PartialLaw.prefix-of}}
 use Rattle.npm_words.proofs.{Grammar.VersionLaw.{padded-same, strict-read}, VersionTexts.Lists.{marked-found, marked-read}}
 use Rattle.npm_words.specs.Coerced.{IsChosenFrom, IsCoerced, IsContinuedIn, IsMarkedList, IsNumberIn, IsRelease, absent, marked, one, three, two}
 use Rattle.npm_words.specs.{Coerced.unmarked, Internal.Tuples.{BeginsAfter, IsChosenPlace, absent_len, build_len}}
@@ -27,7 +27,7 @@ record RunAt (text : List ℕ) : Type 0 where
 run-at : (text : List ℕ) → 0 < run_len text → RunAt text
 run-at text some =
     let n = prefix_len is_ascii_digit text in
-    let is : IsRun (take n text) = grind (arith, nat_tests, common_steps, length-prefix_len, digits-of) in
+    let is : IsRun (take n text) = grind (arith, nat_tests, common_steps, length-prefix_len, prefix-of is_ascii_digit) in
     record { run = take n text; rest = drop n text; split = sym (take-append-drop n text); is = is; ended = run-ends text }
 
 run-long : (a z : List ℕ) → IsRun a → begins is_ascii_digit z ≡ false → run_len (a ++ z) ≡ length a

@@ -5,7 +5,7 @@ use Rattle.npm_words.proofs.Common.{append-nil, arith, begins, begins_byte, bind
 use Rattle.npm_words.proofs.Common.{encode_utf8_all, false, inl, inr, is_ascii_digit, is_empty, is_mark, length, list_all, middle_is_trim, nat_tests}
 use Rattle.npm_words.proofs.Common.{number_front, number_of, number_with, or_right, patch_front, pre_front, prefix_len, qualified_version, refl}
 use Rattle.npm_words.proofs.Common.{same_Some, subst, sym, take, take-append-drop, take_at, take_rest, true, whole_version, ℕ, ◌&&◌, ◌++◌, ◌-◌, ◌<◌}
-use Rattle.npm_words.proofs.{Common.{◌>>?◌, ◌∙◌, ◌∷◌, ◌≡◌, ◌≤◌, ◌⊎◌}, Grammar.{Hyphens.{ends-found, ends-read}, PartialLaw.{digits-of, patch-exact}}}
+use Rattle.npm_words.proofs.{Common.{◌>>?◌, ◌∙◌, ◌∷◌, ◌≡◌, ◌≤◌, ◌⊎◌}, Grammar.{Hyphens.{ends-found, ends-read}, PartialLaw.{patch-exact, prefix-of}}}
 use Rattle.npm_words.proofs.Grammar.VersionLaw.{At, Follows, build-ends, build-taken, ended-found, pre-follows, pre-found, pre-taken}
 use Rattle.npm_words.{proofs.Grammar.VersionLaw.{strict-found, strict-read}, specs.Grammar.{IsPreRelease, IsWritten, written}}
 use Rattle.npm_words.specs.{Internal.Versions.{fits, patch_len, unmarked}, VersionText.IsVersionTextIn}
@@ -15,7 +15,7 @@ use Rattle.semver_core.proofs.Reading.Numbers.{number-found, number-is, number-o
 -- ---- the patch number that the code finds
 
 patch-digits : (text : List ℕ) → list_all is_ascii_digit (take (patch_len text) text) ≡ true
-patch-digits text = digits-of (patch_len text) text (grind (arith, nat_tests, common_steps))
+patch-digits text = prefix-of is_ascii_digit (patch_len text) text (grind (arith, nat_tests, common_steps))
 
 -- a number at the front of digits alone is that of all of them
 digits-front : (limit : ℕ) (text : List ℕ) → list_all is_ascii_digit text ≡ true

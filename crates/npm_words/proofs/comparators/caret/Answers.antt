@@ -1,4 +1,4 @@
-use Rattle.npm_words.proofs.Common.{ap, arith, caret_from, from, nat_lt, npm_partial_view, sym, true, within, ℕ, ◌∙◌}
+use Rattle.npm_words.proofs.Common.{ap, arith, caret_from, from, nat_lt, npm_partial_view, sym, within, ℕ, ◌∙◌}
 use Rattle.npm_words.proofs.Grammar.{Printed.from_valid, Rows.{caret_valid, noted_valid, part_caret, whole_caret}}
 use Rattle.npm_words.proofs.comparators.caret.Goals as goal
 

@@ -1,4 +1,4 @@
-use Rattle.npm_words.proofs.{Common.{ap, arith, first, from, npm_partial_view, refl, within, ◌∙◌}, Grammar.{Printed.from_valid, Rows.noted_valid}}
+use Rattle.npm_words.proofs.{Common.{ap, arith, from, npm_partial_view, refl, within, ◌∙◌}, Grammar.{Printed.from_valid, Rows.noted_valid}}
 use Rattle.npm_words.proofs.Grammar.Rows.{part_at_most, part_below, part_equal}
 use Rattle.npm_words.proofs.comparators.compared.Goals as goal
 

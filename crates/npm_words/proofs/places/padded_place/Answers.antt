@@ -1,9 +1,9 @@
-use Rattle.npm_words.proofs.{Common.{MAX_SAFE_INTEGER, None, arith, nat_tests, number_front, number_with, sym, ◌≡◌}, Grammar.PartialLaw.{great_placed, valued_placed}}
+use Rattle.npm_words.proofs.{Common.{MAX_SAFE_INTEGER, None, arith, nat_tests, number_front, number_with, sym, ◌≡◌}, Grammar.PartialLaw.{great_placed, number-valued}}
 use Rattle.npm_words.proofs.places.padded_place.Goals as goal
 
 pub returns-in-Some : goal.returns-in-Some
 unfolding number_with
-returns-in-Some c = grind (arith, valued_placed)
+returns-in-Some c = grind (arith, nat_tests, number-valued)
 
 pub returns : goal.returns
 unfolding number_with
