@@ -1,17 +1,15 @@
 -- The malformed end of a hyphen range.
-use Rattle.npm_words.proofs.Common.{AreRead, Bool, Comparison, Ended, IsUtf8, List, MAX_SAFE_INTEGER, None, Option, Some, [], after_ends}
-use Rattle.npm_words.proofs.Common.{and_parts, ap, append_assoc, are_normal, arith, begins, bind_some, capped_in, cond_some, drop_at, drop_ends}
-use Rattle.npm_words.proofs.Common.{drop_spaces, encode_utf8_all, end_front, false, from_boundary, if◌then◌else◌, inr, is_empty, is_free}
-use Rattle.npm_words.proofs.Common.{is_free_lower, is_free_upper, is_mark, is_right, is_some, is_valid, last_end, length, length-append, list_all}
-use Rattle.npm_words.proofs.Common.{lower_of, nat_tests, refl, space_len, space_len-nil, subst, suc, sym, take_at, true, upper_of, zero, ℕ, ◌++◌, ◌+◌}
-use Rattle.npm_words.proofs.Common.{◌>>?◌, ◌∙◌, ◌∷◌, ◌≡◌, ◌≤◌}
-use Rattle.npm_words.proofs.{FlawPlaces.Ranges.one_malformed_word, Grammar.Hyphens.{dash-is, dash-of, end-found, end-normal, end-read, ends-found, ends-read}}
-use Rattle.npm_words.proofs.Grammar.{Hyphens.{free-capped, front-is, normal-capped, right-end}, Printed.{capped-valid, lower-invalid, upper-invalid}}
-use Rattle.npm_words.{proofs.Common.empty_is, specs.Internal.{Ends.{behind_end, is_lower, is_right_one, is_upper}, Words.after_dash}}
-use Rattle.npm_words.specs.{Internal.Words.end_len, MalformedEnds.{HasEnds, IsEndPlace, IsLower, IsMalformedPart, IsRightEnd, IsUpper, IsWrongEnd}}
-use Rattle.npm_words.specs.{MalformedEnds.{SkipsMarks, a_word, an_end, lower, upper}, Table.Partial}
-use Rattle.semver_core.proofs.Reading.Boundaries.{blank-len, boundary-utf8, first-is, some_space-is}
-use Rattle.semver_core.specs.{Text.{Boundaries.IsFirstBoundary}}
+use Rattle.npm_words.proofs.Common.{AreRead, Bool, Comparison, Ended, IsUtf8, List, MAX_SAFE_INTEGER, None, Option, Some, [], after_ends, and_parts}
+use Rattle.npm_words.proofs.Common.{ap, append_assoc, are_normal, arith, begins, bind_some, capped_in, cond_some, drop_at, drop_ends, drop_spaces}
+use Rattle.npm_words.proofs.Common.{empty_is, encode_utf8_all, end_front, false, from_boundary, if◌then◌else◌, inr, is_empty, is_free, is_free_lower}
+use Rattle.npm_words.proofs.Common.{is_free_upper, is_mark, is_right, is_some, is_valid, last_end, length, length-append, list_all, lower_of}
+use Rattle.npm_words.proofs.Common.{nat_tests, refl, space_len, space_len-nil, subst, suc, sym, take_at, true, upper_of, zero, ℕ, ◌++◌, ◌+◌, ◌>>?◌}
+use Rattle.npm_words.proofs.{Common.{◌∙◌, ◌∷◌, ◌≡◌, ◌≤◌}, FlawPlaces.Ranges.one_malformed_word, Grammar.Hyphens.{dash-is, dash-of, end-found}}
+use Rattle.npm_words.proofs.Grammar.Hyphens.{end-normal, end-read, ends-found, ends-read, free-capped, front-is, normal-capped, right-end}
+use Rattle.npm_words.{proofs.Grammar.Printed.{capped-valid, lower-invalid, upper-invalid}, specs.Internal.Ends.{behind_end, is_lower, is_right_one}}
+use Rattle.npm_words.specs.{Internal.{Ends.is_upper, Words.{after_dash, end_len}}, MalformedEnds.{HasEnds, IsEndPlace, IsLower, IsMalformedPart}}
+use Rattle.npm_words.specs.{MalformedEnds.{IsRightEnd, IsUpper, IsWrongEnd, SkipsMarks, a_word, an_end, lower, upper}, Table.Partial}
+use Rattle.semver_core.{proofs.Reading.Boundaries.{blank-len, boundary-utf8, first-is, some_space-is}, specs.Text.Boundaries.IsFirstBoundary}
 use Rattle.{semver_core.specs.Values.Versions.VersionValue, semver_pieces.specs.declared.bounds.Bounds.Bounds}
 use Rattle.std.proofs.lemmas.Str.{IsCharBoundary-at_seam, IsUtf8-take}
 unfoldable use Rattle.npm_words.specs.Internal.Ends.{end_texts}

@@ -2,10 +2,10 @@
 use Rattle.npm_words.proofs.Common.{AllByRecursion, AreAlternatives, Bool, Comparison, HasAlternativesIn, IsAlternative, IsCutAtBars, IsLeft}
 use Rattle.npm_words.proofs.Common.{IsMalformedWord, IsUtf8, List, MAX_SAFE_INTEGER, NoValue, None, Option, Signed, Some, [], and_parts, ap}
 use Rattle.npm_words.proofs.Common.{append-nil, arith, capped_partial, common_steps, cut_bars, drop, drop_spaces, false, here, is_empty, is_valid}
-use Rattle.npm_words.proofs.Common.{length, length-append, list_all, marks_len, nat_tests, none, refl, signed_word}
-use Rattle.npm_words.proofs.{Common.{sym, true, ℕ, ◌++◌, ◌+◌, ◌<◌, ◌∙◌, ◌∷◌, ◌≡◌, ◌≤◌}, Grammar.Printed.{capped-valid, table-invalid}}
-use Rattle.npm_words.{proofs.Grammar.{Printed.valid-same, Words.{WordAt, signed-found, strict-kept, word-read}}, specs.MalformedWords.IsRightWord}
-use Rattle.npm_words.specs.{MalformedWords.on, RangeFlaws.{IsAlternativeText, bytes_of}, RangeText.{hyphen, next, words}, Table.{Partial, table}}
+use Rattle.npm_words.proofs.Common.{length, length-append, list_all, marks_len, nat_tests, none, refl, signed_word, sym, true, ℕ, ◌++◌, ◌+◌, ◌<◌, ◌∙◌}
+use Rattle.npm_words.proofs.{Common.{◌∷◌, ◌≡◌, ◌≤◌}, Grammar.{Printed.{capped-valid, table-invalid, valid-same}, Words.{WordAt, signed-found}}}
+use Rattle.npm_words.{proofs.Grammar.Words.{strict-kept, word-read}, specs.{MalformedWords.{IsRightWord, on}, RangeFlaws.IsAlternativeText}}
+use Rattle.npm_words.specs.{RangeFlaws.bytes_of, RangeText.{hyphen, next, words}, Table.{Partial, table}}
 use Rattle.semver_core.proofs.Dividing.{BarLemmas.{cut_bars-front, parts_after}, BarsDivide.{bars_divide, pieces-utf8}}
 use Rattle.semver_core.{proofs.Reading.Boundaries.{boundary-of, first-of, skips-is, skips-of, skips-utf8, spaces-le}, specs.Internal.Parts.front_part}
 use Rattle.semver_core.specs.Text.Boundaries.{SkipsBlank}

@@ -1,12 +1,10 @@
 -- The characters of words, of their partials and signs, and of the whitespace between them.
 use Rattle.npm_words.proofs.Common.{Bool, Id, IsBlank, IsIdentifiers, IsPlace, IsPlaces, IsSignText, IsStrictBuild, List, Option, [], all_weaker}
-use Rattle.npm_words.proofs.Common.{arith, caret_equal, common_steps, compared}
-use Rattle.npm_words.proofs.Common.{ends, get_or, is_ascii_digit, is_empty, is_identifier_char, is_whitespace, late_above, late_below, length}
-use Rattle.npm_words.proofs.Common.{list_all, nat_le, nat_tests, no_sign, not, pieces, refl, runs_tail, sign, spelling, tilde_twice, true, ℕ}
-use Rattle.npm_words.{proofs.Common.{◌&&◌, ◌++◌, ◌-◌, ◌<◌, ◌==◌, ◌||◌, ◌∷◌, ◌≡◌}, specs.{Grammar.IsPreRelease, RangeText.tilde_sign}}
-use Rattle.{npm_words.specs.Table.{Partial, Sign}, semver_core.proofs.{Reading.Bytes.all-join, Text.Listed.plain_runs}}
-use Rattle.{semver_core.specs.Internal.CommonReading.is_plain, std.specs.Char.is_ascii_graphic}
-use Rattle.npm_words.proofs.Grammar.Runs.{encoded-all}
+use Rattle.npm_words.proofs.Common.{arith, caret_equal, common_steps, compared, ends, get_or, is_ascii_digit, is_empty, is_identifier_char}
+use Rattle.npm_words.proofs.Common.{is_whitespace, late_above, late_below, length, list_all, nat_le, nat_tests, no_sign, not, pieces, refl, runs_tail}
+use Rattle.npm_words.proofs.{Common.{sign, spelling, tilde_twice, true, ℕ, ◌&&◌, ◌++◌, ◌-◌, ◌<◌, ◌==◌, ◌||◌, ◌∷◌, ◌≡◌}, Grammar.Runs.encoded-all}
+use Rattle.{npm_words.specs.{Grammar.IsPreRelease, RangeText.tilde_sign, Table.{Partial, Sign}}, semver_core.proofs.Reading.Bytes.all-join}
+use Rattle.{semver_core.{proofs.Text.Listed.plain_runs, specs.Internal.CommonReading.is_plain}, std.specs.Char.is_ascii_graphic}
 
 -- `<`, `=`, `>`, `^` or `~`
 abbrev pub is_sign : ℕ → Bool

@@ -5,14 +5,14 @@ use Rattle.npm_words.proofs.Common.{MAX_SAFE_INTEGER, Option, Some, VersionValue
 use Rattle.npm_words.proofs.Common.{ap₂, are_marks, are_normal, are_whole_marks, arith, begins, bind_some, capped_in, capped_partial, cases_Bool}
 use Rattle.npm_words.proofs.Common.{common_steps, compared, cond_some, drop, drop_at, drop_ends, drop_spaces, empty_is, encode_utf8, encode_utf8_all}
 use Rattle.npm_words.proofs.Common.{end_front, ended_as, false, first_as, get_or, hyphen_ends, hyphen_of, if◌then◌else◌, inl, inr, is_empty, is_free}
-use Rattle.npm_words.proofs.Common.{is_free_lower, is_free_upper, is_mark, is_right, is_right_end, is_valid, is_whitespace}
-use Rattle.npm_words.proofs.Common.{last_end, last_marks, le-ltb, len_utf8, len_utf8_bounds, length, length-append, length-drop, length-encode}
-use Rattle.npm_words.proofs.Common.{list_all, list_all-append, lower_of, lt-ltb, nat_tests, not, prefix_len, refl, same_Some, space_len}
-use Rattle.npm_words.proofs.Common.{space_len-nil, subst, suc, sym, take, true, upper_of, zero, ℕ, ◌&&◌, ◌++◌, ◌+◌, ◌-◌, ◌<◌, ◌==◌, ◌>>?◌, ◌||◌, ◌∙◌}
-use Rattle.npm_words.proofs.{Common.{◌∷◌, ◌≡◌, ◌≤◌}, Grammar.{Characters.{is_signal, sign-signal}, PartialLaw.{boundary-quiet, front-text}}}
-use Rattle.npm_words.proofs.Grammar.{PartialLaw.{places-found, places-read}, Printed.{capped-valid, lower-invalid, upper-invalid, valid-same}}
-use Rattle.npm_words.{proofs.Grammar.{Runs.{encoded-all, run-exact}, Signs.marks-all, Words.{marks-dropped, places-begin}}, specs.Grammar.IsPreRelease}
-use Rattle.npm_words.specs.{MalformedEnds.SkipsDash, Internal.{Reads.valid_one, Words.{after_dash, end_len, places_front}}, RangeText.{formed, ignored, more}, Table.Partial}
+use Rattle.npm_words.proofs.Common.{is_free_lower, is_free_upper, is_mark, is_right, is_right_end, is_valid, is_whitespace, last_end, last_marks}
+use Rattle.npm_words.proofs.Common.{le-ltb, len_utf8, len_utf8_bounds, length, length-append, length-drop, length-encode, list_all, list_all-append}
+use Rattle.npm_words.proofs.Common.{lower_of, lt-ltb, nat_tests, not, prefix_len, refl, same_Some, space_len, space_len-nil, subst, suc, sym, take}
+use Rattle.npm_words.proofs.Common.{true, upper_of, zero, ℕ, ◌&&◌, ◌++◌, ◌+◌, ◌-◌, ◌<◌, ◌==◌, ◌>>?◌, ◌||◌, ◌∙◌, ◌∷◌, ◌≡◌, ◌≤◌}
+use Rattle.npm_words.proofs.Grammar.{Characters.{is_signal, sign-signal}, PartialLaw.{boundary-quiet, front-text, places-found, places-read}}
+use Rattle.npm_words.proofs.Grammar.{Printed.{capped-valid, lower-invalid, upper-invalid, valid-same}, Runs.{encoded-all, run-exact}, Signs.marks-all}
+use Rattle.npm_words.{proofs.Grammar.Words.{marks-dropped, places-begin}, specs.{Grammar.IsPreRelease, Internal.{Reads.valid_one, Words.after_dash}}}
+use Rattle.npm_words.specs.{Internal.Words.{end_len, places_front}, MalformedEnds.SkipsDash, RangeText.{formed, ignored, more}, Table.Partial}
 use Rattle.{npm_words.specs.Table.whole, semver_core.proofs.{Normal.identifiers-normal, Reading.Boundaries.{blank-len, boundary-of, boundary-utf8}}}
 use Rattle.semver_core.proofs.Reading.{Boundaries.{byte-is, front-dark, skips-of, skips-utf8, some_space-is, tail-utf8}, Bytes.all-join}
 use Rattle.semver_core.proofs.{Reading.Bytes.{begins_component, is_component_byte, is_solid}, Text.SpaceLaw.front_is_first_character}

@@ -1,14 +1,12 @@
 -- How far a malformed word goes: the function that looks for its end finds exactly what the statement has.
-use Rattle.npm_words.proofs.Common.{Bool, IsIgnored, IsUtf8, List, [], ap, arith, behind_ignored, cases_Bool, drop_spaces, encode_utf8, false}
-use Rattle.npm_words.proofs.Common.{from_boundary, if◌then◌else◌, inl, inr, is_boundary, len_utf8_bounds, length, length-append, length-encode}
-use Rattle.npm_words.proofs.Common.{length-take-le, nat_tests, refl, space_len, subst, suc, sym, take, true, zero, ℕ, ◌-◌, ◌<◌, ◌∙◌, ◌∷◌, ◌≡◌}
-use Rattle.npm_words.proofs.{Common.◌≤◌, Grammar.{Inside.{not-taken, taken-found, taken-not, taken-read}, PartialLaw.front-text, Runs.steps-go}}
-use Rattle.npm_words.{proofs.Grammar.{Runs.steps-stop}, specs.{Internal.Words.takes_on, Malformed.{goes_on, stops}}}
-use Rattle.semver_core.proofs.Reading.Boundaries.{boundary-le, boundary-utf8, first-is, first-of, skips-is, skips-of, skips-utf8}
-use Rattle.semver_core.{proofs.Reading.Boundaries.spaces-le, specs.Text.Boundaries.{IsFirstBoundary}}
-use Rattle.semver_core.specs.Text.Characters.{BeginsBlank}
-use Rattle.npm_words.proofs.Common.{after_spaces, length-drop, space_len-nil}
-use Rattle.semver_core.proofs.Text.Spaces.{after_spaces-drop}
+use Rattle.npm_words.proofs.Common.{Bool, IsIgnored, IsUtf8, List, [], after_spaces, ap, arith, behind_ignored, cases_Bool, drop_spaces, encode_utf8}
+use Rattle.npm_words.proofs.Common.{false, from_boundary, if◌then◌else◌, inl, inr, is_boundary, len_utf8_bounds, length, length-append, length-drop}
+use Rattle.npm_words.proofs.Common.{length-encode, length-take-le, nat_tests, refl, space_len, space_len-nil, subst, suc, take, true, zero, ℕ}
+use Rattle.npm_words.proofs.{Common.{◌-◌, ◌<◌, ◌∙◌, ◌∷◌, ◌≡◌, ◌≤◌}, Grammar.Inside.{not-taken, taken-found, taken-not, taken-read}}
+use Rattle.npm_words.{proofs.Grammar.{PartialLaw.front-text, Runs.{steps-go, steps-stop}}, specs.{Internal.Words.takes_on, Malformed.goes_on}}
+use Rattle.{npm_words.specs.Malformed.stops, semver_core.proofs.Reading.Boundaries.{boundary-le, boundary-utf8, first-is, first-of, skips-is}}
+use Rattle.semver_core.proofs.{Reading.Boundaries.{skips-of, skips-utf8, spaces-le}, Text.Spaces.after_spaces-drop}
+use Rattle.semver_core.specs.Text.{Boundaries.IsFirstBoundary, Characters.BeginsBlank}
 
 takes-some : (piece rest : List ℕ) → takes_on piece rest ≡ true → 0 < length piece
 unfolding takes_on
@@ -20,7 +18,7 @@ takes-some piece rest h = grind arith
 abbrev goes : List ℕ → Bool
 goes text = takes_on (take (length text - length (from_boundary text)) text) (drop_spaces (from_boundary text))
 
-taken-less : (text : List ℕ) → goes text ≡ true → length (drop_spaces (from_boundary text)) < length text
+pub taken-less : (text : List ℕ) → goes text ≡ true → length (drop_spaces (from_boundary text)) < length text
 taken-less text h =
     let n = length text - length (from_boundary text) in
     omega (arith, takes-some (take n text) (drop_spaces (from_boundary text)) h, length-take-le n text, spaces-le (from_boundary text), boundary-le text)
@@ -33,22 +31,12 @@ step : (n : ℕ) (text : List ℕ) → behind_ignored (suc n) text ≡ (if goes 
 unfolding behind_ignored
 step n text = refl
 
-stop : (text : List ℕ) → goes text ≡ false → behind_ignored (length text) text ≡ from_boundary text
+pub stop : (text : List ℕ) → goes text ≡ false → behind_ignored (length text) text ≡ from_boundary text
 stop = steps-stop behind_ignored _ _ _ nil-end step taken-less
 
-go : (text : List ℕ) → goes text ≡ true
+pub go : (text : List ℕ) → goes text ≡ true
     → behind_ignored (length text) text ≡ (let rest = drop_spaces (from_boundary text) in behind_ignored (length rest) rest)
 go = steps-go behind_ignored _ _ _ nil-end step taken-less
-
-module _ (text behind next : List ℕ) (e : behind ≡ from_boundary text) (f : next ≡ drop_spaces behind) where
-  pub piece-stops : takes_on (take (length text - length behind) text) next ≡ false → behind ≡ behind_ignored (length text) text
-  piece-stops h = e ∙ sym (stop text (rw (f, e) at h))
-
-  pub piece-less : takes_on (take (length text - length behind) text) next ≡ true → length next < length text
-  piece-less h = rw (f, e) (taken-less text (rw (f, e) at h))
-
-  pub piece-goes : takes_on (take (length text - length behind) text) next ≡ true → behind_ignored (length text) text ≡ behind_ignored (length next) next
-  piece-goes h = rw (f, e) (go text (rw (f, e) at h))
 
 -- ---- what is written is read
 
@@ -121,3 +109,5 @@ ignored-within (suc n) text u le = found-with text u (λ on v. ignored-within n 
 
 pub ignored-found : (text : List ℕ) → IsUtf8 text → IgnoredAt text (behind_ignored (length text) text)
 ignored-found text u = ignored-within (length text) text u (omega arith)
+
+pub ruleset pieces_passed = (stop, go, taken-less, boundary-le)

@@ -4,10 +4,9 @@ use Rattle.npm_words.proofs.Common.{common_steps, drop, drop_at, empty_is, false
 use Rattle.npm_words.proofs.Common.{length-append, length-drop, nat_tests, not, prefix_len, refl, subst, suc, sym, take, take-append-drop, take_at}
 use Rattle.npm_words.proofs.Common.{take_rest, takes, true, zero, ℕ, ◌&&◌, ◌++◌, ◌-◌, ◌<◌, ◌==◌, ◌||◌, ◌∙◌, ◌∷◌, ◌≡◌, ◌≤◌}
 use Rattle.npm_words.proofs.Grammar.{Characters.empty-length, InsideParts.{inside-starts, partial-found, partial-less, partial-max, starts_place}}
-use Rattle.npm_words.{proofs.Grammar.{Runs.{run-exact, steps-go, steps-stop}}, specs.Internal.Inside.are_inside}
-use Rattle.npm_words.specs.{Internal.{Inside.{behind_partial, from_place, is_apart}, Words.takes_on}, Malformed.{AreInside, IsInside, IsTaken}}
-use Rattle.semver_core.proofs.Text.Runs.{prefix_each, prefix_ends}
-use Rattle.{npm_words.specs.Malformed.{begins_place, more, none}, std.{proofs.Math.Bool.or-true, specs.List.{ends_with, position}}}
+use Rattle.npm_words.{proofs.Grammar.Runs.{run-exact, steps-go, steps-stop}, specs.Internal.Inside.{are_inside, behind_partial, from_place, is_apart}}
+use Rattle.npm_words.specs.{Internal.Words.takes_on, Malformed.{AreInside, IsInside, IsTaken, begins_place, more, none}}
+use Rattle.{semver_core.proofs.Text.Runs.{prefix_each, prefix_ends}, std.{proofs.Math.Bool.or-true, specs.List.{ends_with, position}}}
 
 -- ---- the first place
 

@@ -3,10 +3,11 @@ use Rattle.npm_words.proofs.Common.{Bool, List, [], all_weaker, and_parts, ap, a
 use Rattle.npm_words.proofs.Common.{cases_Bool, common_steps, drop, empty_is, false, has_leading_zero, if◌then◌else◌, inl, inr, is_ascii_digit}
 use Rattle.npm_words.proofs.Common.{is_empty, join_with_byte, length, length-append, length-drop, list_all, nat_tests, not, pieces, prefix_len, refl}
 use Rattle.npm_words.proofs.Common.{suc, sym, take, take-append-drop, take_rest, true, zero, ℕ, ◌&&◌, ◌++◌, ◌+◌, ◌<◌, ◌==◌, ◌||◌, ◌∙◌, ◌∷◌, ◌≡◌, ◌≤◌}
-use Rattle.npm_words.proofs.Grammar.{VersionLaw.At, Runs.{run-exact, run-many, steps-go, steps-stop, while-on}}
+use Rattle.npm_words.proofs.Grammar.{Runs.{run-exact, run-many, steps-go, steps-stop, while-on}, VersionLaw.At}
 use Rattle.{npm_words.specs.Internal.Inside.{begins_dotted_id, behind_id, behind_ids}, semver_core.proofs.Reading.Bytes.begins-some}
-use Rattle.semver_core.{proofs.{Reading.Qualifiers.byte-begins, Text.Runs.{not_dot, prefix_each}}, specs.Text.{Characters.is_identifier_char, Identifiers.goes_on}}
-use Rattle.{semver_core.specs.Text.Identifiers.is_identifier, std.proofs.lemmas.List.Splits.{join_with_byte-slice_split, length-slice_split}}
+use Rattle.semver_core.{proofs.{Reading.Qualifiers.byte-begins, Text.Runs.{not_dot, prefix_each}}, specs.Text.Characters.is_identifier_char}
+use Rattle.{semver_core.specs.Text.Identifiers.{goes_on, is_identifier}, std.proofs.lemmas.List.Splits.join_with_byte-slice_split}
+use Rattle.std.proofs.lemmas.List.Splits.{length-slice_split}
 
 pub drop-le : (n : ℕ) (x rest : List ℕ) → length x ≤ n → length (drop n (x ++ rest)) ≤ length rest
 drop-le n x rest h = omega (arith, h, length-drop n (x ++ rest), length-append x rest)
@@ -36,12 +37,12 @@ behind-is : (strict : Bool) (c : ℕ) (text : List ℕ)
 unfolding behind_id
 behind-is strict c text = grind (arith, nat_tests)
 
--- what is left behind something: no more than stood behind it, and exactly that where no identifier goes on
-record Behind (left rest : List ℕ) : Type 0 where
-  le : length left ≤ length rest
-  exact : begins is_identifier_char rest ≡ false → left ≡ rest
+-- what is left behind something: no more than stood behind it, and exactly that where nothing goes on there
+pub record Behind (goes : List ℕ → Bool) (rest left : List ℕ) : Type 0 where
+  pub le : length left ≤ length rest
+  pub exact : goes rest ≡ false → left ≡ rest
 
-good-behind : (strict : Bool) (id rest : List ℕ) → is_good strict id ≡ true → Behind (behind_id strict (id ++ rest)) rest
+good-behind : (strict : Bool) (id rest : List ℕ) → is_good strict id ≡ true → Behind (begins is_identifier_char) rest (behind_id strict (id ++ rest))
 good-behind strict [] rest h = cc h
 good-behind strict (c ∷ id) rest h =
     let p = and_parts (list_all (class c) (c ∷ id)) (not (strict && (c == 48)) || is_empty id) (sym (good-is strict c id) ∙ h) in
@@ -68,7 +69,7 @@ ids-le zero strict text = omega arith
 ids-le (suc n) strict text = grind (arith, id-le strict text, length-drop, ids-le n strict (drop 1 (behind_id strict text)))
 
 -- what stands behind a dot is shorter
-dot-less : (strict : Bool) (text : List ℕ) → begins_dotted_id (behind_id strict text) ≡ true → length (drop 1 (behind_id strict text)) < length text
+pub dot-less : (strict : Bool) (text : List ℕ) → begins_dotted_id (behind_id strict text) ≡ true → length (drop 1 (behind_id strict text)) < length text
 dot-less strict text h = grind (arith, id-le strict text)
 
 -- ---- the loop
@@ -82,18 +83,14 @@ ids-step : (strict : Bool) (n : ℕ) (text : List ℕ) → behind_ids (suc n) st
 unfolding behind_ids
 ids-step strict n text = refl
 
-module _ (strict : Bool) (text rest : List ℕ) (e : rest ≡ behind_id strict text) where
-  pub ids-stop : begins_dotted_id rest ≡ false → rest ≡ behind_ids (length text) strict text
-  ids-stop h = e ∙ sym (steps-stop (λ n. behind_ids n strict) _ _ _ (ids-none strict) (ids-step strict) (dot-less strict) text (rw e at h))
+pub ids-stop : (strict : Bool) (text : List ℕ) → begins_dotted_id (behind_id strict text) ≡ false → behind_ids (length text) strict text ≡ behind_id strict text
+ids-stop strict = steps-stop (λ n. behind_ids n strict) _ _ _ (ids-none strict) (ids-step strict) (dot-less strict)
 
-  pub ids-less : (next : List ℕ) → next ≡ drop 1 rest → begins_dotted_id rest ≡ true → length next < length text
-  ids-less next g h = rw (g, e) (dot-less strict text (rw e at h))
+pub ids-go : (strict : Bool) (text : List ℕ) → begins_dotted_id (behind_id strict text) ≡ true
+    → behind_ids (length text) strict text ≡ (let next = drop 1 (behind_id strict text) in behind_ids (length next) strict next)
+ids-go strict = steps-go (λ n. behind_ids n strict) _ _ _ (ids-none strict) (ids-step strict) (dot-less strict)
 
-  pub ids-go : (next : List ℕ) → next ≡ drop 1 rest → begins_dotted_id rest ≡ true
-      → behind_ids (length text) strict text ≡ behind_ids (length next) strict next
-  ids-go next g h = rw (g, e) (steps-go (λ n. behind_ids n strict) _ _ _ (ids-none strict) (ids-step strict) (dot-less strict) text (rw e at h))
-
-pub ruleset ids_steps = (ids-stop, ids-less, take_rest, nat_tests)
+pub ruleset ids_steps = (ids-stop, ids-go, dot-less, take_rest, nat_tests)
 
 -- ---- what is read is a list, and it is the longest
 
@@ -145,11 +142,6 @@ ids-found (suc n) strict text h k =
           })
     ]
 
--- what is left is no longer than this, and all of it where no identifiers go on there
-pub record Ends (rest left : List ℕ) : Type 0 where
-  pub le : length left ≤ length rest
-  pub exact : goes_on rest ≡ false → left ≡ rest
-
 begins-good : (strict : Bool) (ps : List (List ℕ)) (rest : List ℕ) → list_all (is_good strict) ps ≡ true → 0 < length ps
     → begins_identifier (join_with_byte 46 ps ++ rest) ≡ true
 begins-good strict [] rest h some = absurd (omega (arith, some))
@@ -159,7 +151,7 @@ begins-good strict ((c ∷ id) ∷ p ∷ ps) rest h some = grind arith
 
 -- no less is read than a list that stands there, and no more where it does not go on
 behind-each : (n : ℕ) (strict : Bool) (ps : List (List ℕ)) (rest : List ℕ) → list_all (is_good strict) ps ≡ true → 0 < length ps
-    → length (join_with_byte 46 ps ++ rest) ≤ n → Ends rest (behind_ids n strict (join_with_byte 46 ps ++ rest))
+    → length (join_with_byte 46 ps ++ rest) ≤ n → Behind goes_on rest (behind_ids n strict (join_with_byte 46 ps ++ rest))
 behind-each n strict [] rest h some k = absurd (omega (arith, some))
 behind-each zero strict ps rest h some k =
     absurd (omega (arith, k, begins-some is_identifier_char (join_with_byte 46 ps ++ rest) (begins-good strict ps rest h some)))
@@ -184,7 +176,7 @@ module _ (strict : Bool) (ids rest : List ℕ) (h : are_good strict ids ≡ true
   some : 0 < length (pieces ids)
   some = omega (arith, length-slice_split (λ b. b == 46) ids)
 
-  pub ids-ends : Ends rest (behind_ids (length (ids ++ rest)) strict (ids ++ rest))
+  pub ids-ends : Behind goes_on rest (behind_ids (length (ids ++ rest)) strict (ids ++ rest))
   ids-ends = rw join_with_byte-slice_split at (behind-each (length (join_with_byte 46 (pieces ids) ++ rest)) strict (pieces ids) rest h some (omega arith))
 
   pub ids-begin : begins_identifier (ids ++ rest) ≡ true

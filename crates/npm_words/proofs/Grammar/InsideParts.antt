@@ -5,7 +5,7 @@ use Rattle.npm_words.proofs.Common.{begins_wildcard, build_front, cases_Bool, co
 use Rattle.npm_words.proofs.Common.{has_leading_zero, if◌then◌else◌, inl, inr, is_ascii_digit, is_none, is_strict_list, length, length-append}
 use Rattle.npm_words.proofs.Common.{length-drop, list_all, listed, nat_le, nat_lt, nat_tests, no_build, no_pre_release, not, one, pieces, plus}
 use Rattle.npm_words.proofs.Common.{prefix_len, refl, subst, suc, sym, take, take-append-drop, three, true, two, zero, ℕ, ◌&&◌, ◌++◌, ◌<◌, ◌==◌, ◌||◌}
-use Rattle.npm_words.proofs.{Common.{◌∙◌, ◌∷◌, ◌≡◌, ◌≤◌, ◌⊎◌}, Grammar.InsideIds.{Ends, are_good, drop-le, ids-begin, ids-ends, ids-found, ids-le}}
+use Rattle.npm_words.proofs.{Common.{◌∙◌, ◌∷◌, ◌≡◌, ◌≤◌, ◌⊎◌}, Grammar.InsideIds.{Behind, are_good, drop-le, ids-begin, ids-ends, ids-found, ids-le}}
 use Rattle.npm_words.proofs.Grammar.{InsideIds.is_good, PartialLaw.{prefix-of, run-number}, Runs.run-many, VersionLaw.build-found}
 use Rattle.npm_words.specs.{Grammar.{IsPreRelease, written}, Internal.Inside.{begins_dotted, behind_ids, behind_partial, behind_place, behind_places}}
 use Rattle.npm_words.specs.{Internal.Inside.{behind_pre_release, behind_qualifier, capped, is_single, most, starts}, Malformed.{IsInside, are_found}}
@@ -84,7 +84,7 @@ unfolding behind_pre_release
 none-read strict rest g = grind (arith, nat_tests, and-false)
 
 pre-end : (strict wild : Bool) (pre rest : List ℕ) (l : List Id) → IsPreRelease (not strict) (strict && wild) (fits strict) pre l
-    → begins is_ascii_digit pre ≡ false → Ends rest (behind_pre_release strict (pre ++ rest))
+    → begins is_ascii_digit pre ≡ false → Behind goes_on rest (behind_pre_release strict (pre ++ rest))
 unfolding behind_pre_release
 pre-end strict wild pre rest l no_pre_release q = record { le = pre-le strict rest; exact = none-read strict rest }
 pre-end strict wild pre rest l (dashed t list i h) q =

@@ -7,14 +7,13 @@ use Rattle.npm_words.proofs.Common.{dotted_place, drop, drop-append-add, drop_at
 use Rattle.npm_words.proofs.Common.{is_ascii_digit, is_boundary, is_empty, is_none, is_spelled, length, length-append, length-prefix_len, list_all}
 use Rattle.npm_words.proofs.Common.{listed, may_stand, nat_le, nat_lt, nat_tests, not, number_front, number_of, number_with, one, partial_of}
 use Rattle.npm_words.proofs.Common.{patch_place, place_front, pre_front, pre_release_with, prefix_len, qualified_partial, refl, run_place, same_Some}
-use Rattle.npm_words.proofs.Common.{subst, suc, take, take-append-drop, take_at, take_rest, take_while, three, true, two, zero, ℕ, ◌&&◌, ◌++◌}
-use Rattle.npm_words.proofs.{Common.{◌+◌, ◌-◌, ◌<◌, ◌>>?◌, ◌||◌, ◌∙◌, ◌∷◌, ◌≡◌, ◌≤◌}, Grammar.{Runs.run-many, VersionLaw.{At, Ends, Follows}}}
-use Rattle.npm_words.proofs.Grammar.VersionLaw.{build-ends, build-found, build-taken, dotted-found, number-short, padded-same, pre-follows, pre-found}
-use Rattle.npm_words.{proofs.Grammar.VersionLaw.{pre-taken, strict_is}, specs.{Grammar.IsPreRelease, Internal.Words.{are_short_builds, is_over}}}
-use Rattle.{npm_words.specs.{Internal.Words.{places_front, third_front}, Table.Partial}, semver_core.proofs.Reading.Bytes.{is_solid, solid-dark}}
+use Rattle.npm_words.proofs.Common.{subst, suc, take, take-append-drop, take_at, take_rest, take_while, three, true, two, zero, ℕ, ◌&&◌, ◌++◌, ◌+◌}
+use Rattle.npm_words.proofs.{Common.{◌-◌, ◌<◌, ◌>>?◌, ◌||◌, ◌∙◌, ◌∷◌, ◌≡◌, ◌≤◌}, Grammar.{Runs.run-many, VersionLaw.{At, Ends, Follows, build-ends}}}
+use Rattle.npm_words.proofs.Grammar.VersionLaw.{build-found, build-taken, dotted-found, number-short, padded-same, pre-follows, pre-found, pre-taken}
+use Rattle.npm_words.{proofs.Grammar.VersionLaw.strict_is, specs.{Grammar.IsPreRelease, Internal.Words.{are_short_builds, is_over, places_front}}}
+use Rattle.{npm_words.specs.{Internal.Words.third_front, Table.Partial}, semver_core.proofs.Reading.Bytes.{is_solid, solid-dark}}
 use Rattle.semver_core.proofs.Reading.{Numbers.{digits-taken, number-found, number-is, number-no_wildcard}, Steps.option-cases}
-use Rattle.std.proofs.lemmas.List.Sums.{prefix_len-drop_all, prefix_len-drop_no, prefix_len-drop_yes}
-use Rattle.semver_core.proofs.Text.Runs.{prefix_each}
+use Rattle.{semver_core.proofs.Text.Runs.prefix_each, std.proofs.lemmas.List.Sums.{prefix_len-drop_all, prefix_len-drop_no, prefix_len-drop_yes}}
 use Rattle.npm_words.specs.Partials as Text
 
 pub ruleset prefix_steps = (prefix_len-drop_all, prefix_len-drop_no, prefix_len-drop_yes)
@@ -52,17 +51,13 @@ pub patch-exact : (loose : Bool) (run rest : List ℕ) → list_all is_ascii_dig
 patch-exact loose run rest each f =
     rw (run-many is_ascii_digit run rest each, drop-append-add) (grind (arith, nat_tests, common_steps))
 
-run-read : (loose : Bool) (run rest : List ℕ) (n : ℕ) → IsNumber n run n → is_spelled loose run ≡ true → (loose || nat_le (length run) 257) ≡ true
-    → run_place loose run rest ≡ Some (Some n, rest)
-run-read loose run rest n k spelled short = grind (arith, some-run run, k.some, k.value)
-
 patch-read : (loose : Bool) (run rest : List ℕ) (n : ℕ) → IsNumber n run n → is_spelled loose run ≡ true → (loose || nat_le (length run) 257) ≡ true
     → Follows loose rest → patch_place loose (run ++ rest) ≡ Some (Some n, rest)
 unfolding patch_place place_front
 patch-read loose run rest n k spelled short f =
     let text = run ++ rest in
     let dark = number-no_wildcard run rest (digits-begin run k.some k.each) in
-    let fits = run-read loose run rest n k spelled short in
+    let fits : run_place loose run rest ≡ Some (Some n, rest) = grind (arith, some-run run, k.some, k.value) in
     let len = patch-exact loose run rest k.each f in
     let front = take_at run rest (length run) refl in
     let behind = drop_at run rest (length run) refl in

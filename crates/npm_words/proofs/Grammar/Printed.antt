@@ -9,9 +9,9 @@ use Rattle.npm_words.proofs.Common.{is_strict_identifier, is_valid, is_zero, joi
 use Rattle.npm_words.proofs.Common.{nat_le, nat_tests, no_build, no_pre_release, pieces, refl, release, subst, sym, true, under, version_text, whole}
 use Rattle.npm_words.proofs.{Common.{within, ℕ, ◌&&◌, ◌++◌, ◌+◌, ◌<◌, ◌==◌, ◌^◌, ◌||◌, ◌∙◌, ◌∷◌, ◌≡◌, ◌≤◌}, FlawPlaces.Read.plain-encodes}
 use Rattle.npm_words.{proofs.{FlawPlaces.Read.{plain-middle, plain-trim}, Grammar.VersionLaw.{digits_printed, number_printed}}, specs.Grammar.written}
-use Rattle.{npm_words.specs.{Table.{Partial, Sign, lowest, table}}, semver_core.proofs.Printing.Returns.decimal_digits}
-use Rattle.semver_core.{proofs.Printing.Returns.decimal_some, specs.{Internal.CommonReading.is_plain, Text.Identifiers.is_u64_text}}
-use Rattle.std.proofs.lemmas.{Fmt.{decimal_digit, decimal_injective, length-decimal-le}, List.Splits.{join_with_byte-slice_split, length-slice_split}}
+use Rattle.{npm_words.specs.Table.{Partial, Sign, lowest, table}, semver_core.proofs.Printing.Returns.{decimal_digits, decimal_some}}
+use Rattle.{semver_core.specs.{Internal.CommonReading.is_plain, Text.Identifiers.is_u64_text}, std.proofs.lemmas.Fmt.decimal_digit}
+use Rattle.std.proofs.lemmas.{Fmt.{decimal_injective, length-decimal-le}, List.Splits.{join_with_byte-slice_split, length-slice_split}}
 use Rattle.std.{proofs.lemmas.Str.{IsUtf8-from_ascii, chars-IsAscii}, specs.Str.IsAscii}
 use Rattle.npm_words.specs.Internal.Parts as Parts
 

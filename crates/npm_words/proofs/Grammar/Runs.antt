@@ -1,8 +1,8 @@
 -- Runs of the bytes of one class at the front of a text, and functions that go along a text step by step.
-use Rattle.npm_words.proofs.Common.{Bool, List, [], and_parts, arith, begins, common_steps, drop, drop-append-add, false, if◌then◌else◌, length}
-use Rattle.semver_core.proofs.{Reading.Bytes.all-join, Text.Runs.take_one}
-use Rattle.npm_words.proofs.Common.{encode_ascii, encode_utf8, encode_utf8_all, le-ltb, lt-ltb, take_while}
-use Rattle.npm_words.proofs.Common.{list_all, nat_tests, prefix_len, refl, suc, sym, true, zero, ℕ, ◌++◌, ◌+◌, ◌<◌, ◌∙◌, ◌∷◌, ◌≡◌, ◌≤◌}
+use Rattle.npm_words.proofs.Common.{Bool, List, [], and_parts, arith, begins, common_steps, drop, drop-append-add, encode_ascii, encode_utf8}
+use Rattle.npm_words.proofs.Common.{encode_utf8_all, false, if◌then◌else◌, le-ltb, length, list_all, lt-ltb, nat_tests, prefix_len, refl, suc, sym}
+use Rattle.{npm_words.proofs.Common.{take_while, true, zero, ℕ, ◌++◌, ◌+◌, ◌<◌, ◌∙◌, ◌∷◌, ◌≡◌, ◌≤◌}, semver_core.proofs.Reading.Bytes.all-join}
+use Rattle.semver_core.proofs.Text.Runs.{take_one}
 
 -- ---- runs
 

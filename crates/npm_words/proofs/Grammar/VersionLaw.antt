@@ -8,10 +8,10 @@ use Rattle.npm_words.proofs.Common.{inr, is_ascii_digit, is_empty, is_identifier
 use Rattle.npm_words.proofs.Common.{no_pre_release, not, number_front, number_with, plus, pre_front, pre_release_front, pre_release_with, refl, sym}
 use Rattle.npm_words.proofs.Common.{take, take-append-drop, take_rest, true, ℕ, ◌&&◌, ◌++◌, ◌-◌, ◌<◌, ◌==◌, ◌>>?◌, ◌^◌, ◌||◌, ◌∷◌, ◌≡◌, ◌≤◌, ◌⊎◌}
 use Rattle.{npm_words.specs.Grammar.{IsPreRelease, IsWritten, written}, semver_core.proofs.Reading.{Boundaries.byte-is, Bytes.is_solid}}
-use Rattle.semver_core.proofs.Reading.{IdentifierLists.{front-identifiers, written-begins, written-exact, written-spelled}}
-use Rattle.semver_core.proofs.{Reading.{Numbers.{number-found, number-read}, Qualifiers.byte-begins}, Text.Pieces.list_ended}
-use Rattle.semver_core.{proofs.Text.Runs.{list_len_stop, numerals}, specs.Internal.Fronts.{Front, marked_list}}
-use Rattle.std.proofs.lemmas.{Fmt.{decimal-digits_value, length-decimal-le}, Str.{encodes-chars, length-le-encodes}}
+use Rattle.semver_core.proofs.Reading.{IdentifierLists.{front-identifiers, written-begins, written-exact, written-spelled}, Numbers.number-found}
+use Rattle.semver_core.proofs.{Reading.{Numbers.number-read, Qualifiers.byte-begins}, Text.{Pieces.list_ended, Runs.{list_len_stop, numerals}}}
+use Rattle.{semver_core.specs.Internal.Fronts.{Front, marked_list}, std.proofs.lemmas.Fmt.{decimal-digits_value, length-decimal-le}}
+use Rattle.std.proofs.lemmas.Str.{encodes-chars, length-le-encodes}
 
 -- ---- the number that the code finds
 

@@ -1,21 +1,16 @@
 -- Worked rows, computed: node-semver's table, which versions a list of alternatives accepts, and which texts are versions.
-use Rattle.npm_words.proofs.Common.{AlphaNumeric, AreWords, Bool, Comparison, Id, List, None, Numeric, Option}
-use Rattle.npm_words.proofs.Common.{Some, VersionValue, [], above, after_ends, after_spaces, alternative_of, alternatives_of, are_marks}
-use Rattle.npm_words.proofs.Common.{at_least, at_most, begins_undashed, behind_ignored, below, build_front, codes, compared, digits}
-use Rattle.npm_words.proofs.Common.{dotted_patch, dotted_place, end_front, equal, false, first_word, from_boundary, hyphen_ends}
-use Rattle.npm_words.proofs.Common.{hyphen_lower, hyphen_upper, is_boundary, is_lost, is_some, is_spelled, is_valid, join_with_byte}
-use Rattle.npm_words.proofs.Common.{length, list_len, listed, major, map, may_stand, minor, npm_sign, number_of}
-use Rattle.npm_words.proofs.Common.{number_with, patch_front, patch_place, place_front, pre_front, pre_release_front, pre_release_with}
-use Rattle.npm_words.proofs.Common.{qualified_partial, qualified_version, refl, release_value, signed_word, space_len, spelling}
-use Rattle.npm_words.proofs.Common.{true, tuple_len, tuple_release, whole, whole_version, wildcard, words_within, ℕ, ◌++◌, ◌>>?◌}
-use Rattle.npm_words.{proofs.{Common.{◌∷◌, ◌≡◌}}, specs.{Alternatives.accepts, Internal.Inside.{are_inside, behind_id}}}
-use Rattle.npm_words.specs.Internal.{Inside.{behind_ids, behind_partial, behind_place, behind_places, behind_pre_release}, Words.places_front}
-use Rattle.npm_words.specs.{Internal.Words.takes_on, Table.{Partial, Sign, caret, table, tilde}}
-use Rattle.npm_words.specs.Table.{written_zeros}
-use Rattle.npm_words.proofs.Grammar.Words.{words-found}
-use Rattle.std.proofs.lemmas.Str.{IsUtf8-from_ascii}
+use Rattle.npm_words.proofs.Common.{AlphaNumeric, AreWords, Bool, Comparison, Id, List, None, Numeric, Option, Some, VersionValue, [], above}
+use Rattle.npm_words.proofs.Common.{after_ends, after_spaces, alternative_of, alternatives_of, are_marks, arith, at_least, at_most, begins_undashed}
+use Rattle.npm_words.proofs.Common.{behind_ignored, below, build_front, codes, common_steps, compared, digits, dotted_patch, dotted_place, end_front}
+use Rattle.npm_words.proofs.Common.{equal, false, first_word, from_boundary, hyphen_ends, hyphen_lower, hyphen_upper, is_boundary, is_lost, is_some}
+use Rattle.npm_words.proofs.Common.{is_spelled, is_valid, join_with_byte, length, list_all, list_len, listed, major, map, may_stand, minor, nat_lt}
+use Rattle.npm_words.proofs.Common.{nat_tests, npm_sign, number_of, number_with, patch_front, patch_place, place_front, pre_front, pre_release_front}
+use Rattle.npm_words.proofs.Common.{pre_release_with, qualified_partial, qualified_version, refl, release_value, signed_word, space_len, spelling}
+use Rattle.npm_words.proofs.Common.{true, tuple_len, tuple_release, whole, whole_version, wildcard, words_within, ℕ, ◌++◌, ◌>>?◌, ◌∷◌, ◌≡◌}
+use Rattle.npm_words.{proofs.Grammar.Words.words-found, specs.{Alternatives.accepts, Internal.Inside.{are_inside, behind_id, behind_ids}}}
+use Rattle.npm_words.specs.Internal.{Inside.{behind_partial, behind_place, behind_places, behind_pre_release}, Words.{places_front, takes_on}}
+use Rattle.{npm_words.specs.Table.{Partial, Sign, caret, table, tilde, written_zeros}, std.{proofs.lemmas.Str.IsUtf8-from_ascii, specs.List.list_any}}
 use Rattle.std.specs.Str.{IsAscii}
-use Rattle.npm_words.proofs.Common.{arith, common_steps, list_all, nat_lt, nat_tests}
 
 -- ---- the table, as node-semver prints the range of each word
 
@@ -175,8 +170,9 @@ row-spelled : is_spelled true (codes "01") ∷ is_spelled false (codes "01") ∷
 row-spelled = refl
 
 -- `beta` and `4.5` may stand without `-` loosely, behind a wildcard `1beta`, and the identifier `01`
-row-bare : map (begins_undashed false) (codes "beta" ∷ codes "-beta" ∷ codes "1beta" ∷ codes "4.5" ∷ codes "-" ∷ codes "--" ∷ [])
-    ≡ true ∷ false ∷ false ∷ true ∷ true ∷ false ∷ []
+row-bare : map (begins_undashed false) (codes "beta" ∷ codes "-beta" ∷ codes "1beta" ∷ codes "4.5" ∷ codes "-" ∷ codes "--" ∷ codes "-.5" ∷ codes "4"
+    ∷ codes "45.6" ∷ codes "4a" ∷ codes "-a" ∷ [])
+    ≡ true ∷ false ∷ false ∷ true ∷ true ∷ false ∷ true ∷ false ∷ false ∷ false ∷ false ∷ []
 row-bare = refl
 
 row-wild : map (begins_undashed true) (codes "beta" ∷ codes "-beta" ∷ codes "1beta" ∷ codes "4" ∷ codes "-" ∷ codes "--" ∷ [])
@@ -208,17 +204,12 @@ row-takes = refl
 abbrev ends : List ℕ → Bool
 ends text = are_inside (length text) text
 
-row-ends : map ends (codes ">1.2.3-dev" ∷ codes "foo01.2.3dev" ∷ codes "1.2.3-rc.1.dev" ∷ codes "1.2.3-.v" ∷ codes "1.2.3-a+1v" ∷ codes "1.2.3+v"
-    ∷ codes "1.2.3,1.2.3v" ∷ codes "1.x.3-v" ∷ codes "x.2.3+v" ∷ codes "1.2.3-5a1.2.3v" ∷ [])
-    ≡ true ∷ true ∷ true ∷ true ∷ true ∷ true ∷ true ∷ true ∷ true ∷ true ∷ []
+row-ends : (list_all ends (codes ">1.2.3-dev" ∷ codes "foo01.2.3dev" ∷ codes "1.2.3-rc.1.dev" ∷ codes "1.2.3-.v" ∷ codes "1.2.3-a+1v" ∷ codes "1.2.3+v"
+    ∷ codes "1.2.3,1.2.3v" ∷ codes "1.x.3-v" ∷ codes "x.2.3+v" ∷ codes "1.2.3-5a1.2.3v" ∷ []) ≡ true)
+    × (list_any ends (codes "1.2.3-1v" ∷ codes "1.2.34.v" ∷ codes "1.2.3.4v" ∷ codes "1.2v" ∷ codes "1.2.3-a,v" ∷ codes "x.2.3v" ∷ codes "1.02.x-v"
+    ∷ codes "1.x.3-01v" ∷ codes "1.1.2.3v" ∷ []) ≡ false)
 unfolding are_inside behind_partial behind_places behind_place behind_pre_release behind_ids behind_id build_front list_len
-row-ends = refl
-
-row-ends_not : map ends (codes "1.2.3-1v" ∷ codes "1.2.34.v" ∷ codes "1.2.3.4v" ∷ codes "1.2v" ∷ codes "1.2.3-a,v" ∷ codes "x.2.3v" ∷ codes "1.02.x-v"
-    ∷ codes "1.x.3-01v" ∷ codes "1.1.2.3v" ∷ [])
-    ≡ false ∷ false ∷ false ∷ false ∷ false ∷ false ∷ false ∷ false ∷ false ∷ []
-unfolding are_inside behind_partial behind_places behind_place behind_pre_release behind_ids behind_id build_front list_len
-row-ends_not = refl
+row-ends = (refl, refl)
 
 row-behind : map (λ (text : List ℕ). behind_ignored (length text) text)
     (codes "foo 1" ∷ codes "foo= 1 2" ∷ codes "foo^ bar 1" ∷ codes "~> = 1" ∷ codes "1x 1" ∷ codes "v= 1" ∷ codes "1.2.3-dev= 1 2" ∷ codes "foo" ∷ [])
@@ -266,16 +257,10 @@ unfolding whole_version number_with patch_front qualified_version pre_front pre_
 row-loose = refl
 
 -- a missing number, what stands behind, no digit left for the patch number, the mark `V`, a number past the limit
-row-rejected-loose : map (λ (text : List ℕ). is_some (read_loose text)) (codes "1.2" ∷ codes "1.2.3.4" ∷ codes "1.2.3 4" ∷ codes "1.2.34." ∷ codes "V1.2.3"
-    ∷ codes "1.2.3+" ∷ codes "1.2.3a..b" ∷ codes "0.0.9007199254740992" ∷ [])
-    ≡ false ∷ false ∷ false ∷ false ∷ false ∷ false ∷ false ∷ false ∷ []
+row-rejected-loose : list_any (λ (text : List ℕ). is_some (read_loose text)) (codes "1.2" ∷ codes "1.2.3.4" ∷ codes "1.2.3 4" ∷ codes "1.2.34." ∷ codes "V1.2.3"
+    ∷ codes "1.2.3+" ∷ codes "1.2.3a..b" ∷ codes "0.0.9007199254740992" ∷ []) ≡ false
 unfolding whole_version number_with patch_front qualified_version pre_front pre_release_with pre_release_front build_front number_of list_len listed after_ends space_len
 row-rejected-loose = refl
-
--- how a pre-release without a `-` before it may begin
-row-bare-loose : map (begins_undashed false) (codes "beta" ∷ codes "-" ∷ codes "-.5" ∷ codes "4.5" ∷ codes "4" ∷ codes "45.6" ∷ codes "4a" ∷ codes "-a" ∷ [])
-    ≡ true ∷ true ∷ true ∷ true ∷ false ∷ false ∷ false ∷ false ∷ []
-row-bare-loose = refl
 
 -- the longest tuple at the front
 row-tuples : map tuple_len (codes "1.2.3.4" ∷ codes "1.2.x" ∷ codes "20.11 (LTS)" ∷ codes "x1" ∷ codes "1..2" ∷ codes "1234567890123456"
@@ -287,15 +272,12 @@ row-tuples = refl
 abbrev released : Bool → List ℕ → Option VersionValue
 released zeros tuple = tuple_release zeros 9007199254740991 tuple
 
-row-releases : map (released false) (codes "1.2.3" ∷ codes "20.11" ∷ codes "2" ∷ codes "01.2" ∷ codes "1.02" ∷ codes "9007199254740992" ∷ [])
-    ≡ Some (release_value 1 2 3) ∷ Some (release_value 20 11 0) ∷ Some (release_value 2 0 0) ∷ None ∷ None ∷ None ∷ []
+row-releases : (map (released false) (codes "1.2.3" ∷ codes "20.11" ∷ codes "2" ∷ codes "01.2" ∷ codes "1.02" ∷ codes "9007199254740992" ∷ [])
+    ≡ Some (release_value 1 2 3) ∷ Some (release_value 20 11 0) ∷ Some (release_value 2 0 0) ∷ None ∷ None ∷ None ∷ [])
+    × (map (released true) (codes "01.2" ∷ codes "1.02" ∷ codes "00.0.9007199254740992" ∷ [])
+    ≡ Some (release_value 1 2 0) ∷ Some (release_value 1 2 0) ∷ None ∷ [])
 unfolding tuple_release number_with number_of
-row-releases = refl
-
-row-zeros : map (released true) (codes "01.2" ∷ codes "1.02" ∷ codes "00.0.9007199254740992" ∷ [])
-    ≡ Some (release_value 1 2 0) ∷ Some (release_value 1 2 0) ∷ None ∷ []
-unfolding tuple_release number_with number_of
-row-zeros = refl
+row-releases = (refl, refl)
 
 abbrev read : List ℕ → Option VersionValue
 read text = whole_version false 9007199254740991 text
@@ -317,9 +299,8 @@ unfolding whole_version patch_front number_with qualified_version pre_front pre_
 row-versions = refl
 
 -- a missing number, leading zeros, a number past the limit, a missing hyphen, other marks, a mark with a blank, what stands behind
-row-rejected : map is_read (codes "1.2" ∷ codes "01.2.3" ∷ codes "1.2.00" ∷ codes "1.2.3-01" ∷ codes "1.2.3-a.00" ∷ codes "0.0.9007199254740992"
+row-rejected : list_any is_read (codes "1.2" ∷ codes "01.2.3" ∷ codes "1.2.00" ∷ codes "1.2.3-01" ∷ codes "1.2.3-a.00" ∷ codes "0.0.9007199254740992"
     ∷ codes "1.2.3beta" ∷ codes "V1.2.3" ∷ codes "=1.2.3" ∷ codes "v 1.2.3" ∷ codes "1.2.3.4" ∷ codes "1.2.3-" ∷ codes "1.2.3-a..b" ∷ codes "1.2.3+"
-    ∷ codes "1.2.3+a+b" ∷ codes "1.2.x" ∷ [])
-    ≡ false ∷ false ∷ false ∷ false ∷ false ∷ false ∷ false ∷ false ∷ false ∷ false ∷ false ∷ false ∷ false ∷ false ∷ false ∷ false ∷ []
+    ∷ codes "1.2.3+a+b" ∷ codes "1.2.x" ∷ []) ≡ false
 unfolding whole_version patch_front number_with qualified_version pre_front pre_release_with pre_release_front build_front number_of list_len listed
 row-rejected = refl

@@ -1,9 +1,8 @@
 -- The build of a version text, as it is written: what stands behind the first `+`, since none stands in front of the build.
 use Rattle.npm_words.proofs.Common.{AreMarks, Bool, Id, IsIdentifiers, IsNumber, IsStrictBuild, IsStrictVersion, IsTrim, List, VersionValue, []}
-use Rattle.npm_words.proofs.Common.{all_weaker, arith, common_steps, false, is_ascii_digit}
-use Rattle.npm_words.proofs.Common.{is_identifier, is_identifier_char, join_with_byte, list_all, listed}
-use Rattle.npm_words.proofs.Common.{middle_is_trim, nat_tests, not, pieces, refl, subst, sym, true, ℕ, ◌++◌, ◌==◌, ◌∙◌, ◌∷◌}
-use Rattle.npm_words.{proofs.{Common.{◌≡◌}, Grammar.{Runs.encoded-all, VersionLaw.build-taken}}, specs.{Builds.IsBuildText, Grammar.{IsPreRelease, IsWritten}}}
+use Rattle.npm_words.proofs.Common.{all_weaker, arith, common_steps, false, is_ascii_digit, is_identifier, is_identifier_char, join_with_byte}
+use Rattle.npm_words.proofs.Common.{list_all, listed, middle_is_trim, nat_tests, not, pieces, refl, subst, sym, true, ℕ, ◌++◌, ◌==◌, ◌∙◌, ◌∷◌, ◌≡◌}
+use Rattle.npm_words.{proofs.Grammar.{Runs.encoded-all, VersionLaw.build-taken}, specs.{Builds.IsBuildText, Grammar.{IsPreRelease, IsWritten}}}
 use Rattle.{npm_words.specs.{Grammar.written, VersionText.{IsLooseVersion, IsVersionTextIn, IsWhole}}, semver_core.proofs.Reading.Bytes.all-join}
 use Rattle.semver_core.{proofs.Text.Ends.{is_spelled, nothing_listed}, specs.Text.Identifiers.is_listed}
 use Rattle.std.{proofs.lemmas.List.Splits.join_with_byte-slice_split, specs.List.after_first}
@@ -53,17 +52,8 @@ written-spells : (Marks : List ℕ → Type 0) (Number : List ℕ → ℕ → Ty
     → ((m : List ℕ) → Marks m → NoPlus m) → ((x : List ℕ) (n : ℕ) → Number x n → NoPlus x) → (text : List ℕ) (v : VersionValue)
     → IsWritten Marks Number (IsPreRelease loose false fits) text v → Spells (after_first (λ b. b == 43) text) v.build
 written-spells Marks Number loose fits marks numbers text v (written mark x y z pre build w m i j k p q) =
-    let front : NoPlus pre = pre-other loose false fits pre w.pre_release p in
     let dot = behind-front (46 ∷ []) in
-    rw (
-      behind-front mark _ (marks mark m),
-      behind-front x _ (numbers x w.major i),
-      dot _ refl,
-      behind-front y _ (numbers y w.minor j),
-      dot _ refl,
-      behind-front z _ (numbers z w.patch k),
-      behind-front pre _ front,
-    ) (build-spells build w.build q)
+    grind (arith, behind-front, pre-other, marks, numbers, build-spells)
 
 -- ---- whole texts
 

@@ -4,14 +4,14 @@ use Rattle.npm_words.proofs.Common.{None, Option, Some, VersionValue, [], ap, ap
 use Rattle.npm_words.proofs.Common.{cases_lt, common_steps, drop, drop-append-add, drop_at, ends, eqb-true, false, get_or, if◌then◌else◌, inl, inr}
 use Rattle.npm_words.proofs.Common.{is_ascii_digit, length, length-append, length-prefix_len, length-take-le, list_all, listed, nat_le, nat_tests}
 use Rattle.npm_words.proofs.Common.{number_front, number_with, option_map, prefix_len, refl, same_Some, subst, sym, take, take-append-drop, take_at}
-use Rattle.npm_words.proofs.Common.{take_rest, true, tuple_len, tuple_release, ℕ, ◌++◌, ◌+◌}
-use Rattle.npm_words.proofs.{Common.{◌-◌, ◌<◌, ◌==◌, ◌>>?◌, ◌∙◌, ◌∷◌, ◌≡◌, ◌≤◌}, Grammar.{Characters.last-byte, PartialLaw.prefix-of}}
-use Rattle.npm_words.proofs.{Grammar.VersionLaw.{padded-same, strict-read}, VersionTexts.Lists.{marked-found, marked-read}}
-use Rattle.npm_words.specs.Coerced.{IsChosenFrom, IsCoerced, IsContinuedIn, IsMarkedList, IsNumberIn, IsRelease, absent, marked, one, three, two}
-use Rattle.npm_words.specs.{Coerced.unmarked, Internal.Tuples.{BeginsAfter, IsChosenPlace, absent_len, build_len}}
-use Rattle.npm_words.specs.Internal.Tuples.{dotted_len, end_at, marked_len, pre_len, qualified, run_len, tuple_len_at, version_front}
-use Rattle.semver_core.proofs.{Reading.Numbers.{digits-taken, number-is, number-read, run-ends}, Text.Pieces.rest_at}
-use Rattle.std.{proofs.{Math.Seq.{drop-append_seam, take-append_seam}, lemmas.List.Sums.sum_by-append}, specs.List.count_by}
+use Rattle.npm_words.proofs.Common.{take_rest, true, tuple_len, tuple_release, ℕ, ◌++◌, ◌+◌, ◌-◌, ◌<◌, ◌==◌, ◌>>?◌, ◌∙◌, ◌∷◌, ◌≡◌, ◌≤◌}
+use Rattle.npm_words.proofs.Grammar.{Characters.last-byte, PartialLaw.prefix-of, VersionLaw.{padded-same, strict-read}}
+use Rattle.npm_words.{proofs.VersionTexts.Lists.{marked-found, marked-read}, specs.Coerced.{IsChosenFrom, IsCoerced, IsContinuedIn, IsMarkedList}}
+use Rattle.npm_words.specs.{Coerced.{IsNumberIn, IsRelease, absent, marked, one, three, two, unmarked}, Internal.Tuples.{BeginsAfter, IsChosenPlace}}
+use Rattle.npm_words.specs.Internal.Tuples.{absent_len, build_len, dotted_len, end_at, marked_len, pre_len, qualified, run_len, tuple_len_at}
+use Rattle.{npm_words.specs.Internal.Tuples.version_front, semver_core.proofs.Reading.Numbers.{digits-taken, number-is, number-read, run-ends}}
+use Rattle.{semver_core.proofs.Text.Pieces.rest_at, std.proofs.{Math.Seq.{drop-append_seam, take-append_seam}, lemmas.List.Sums.sum_by-append}}
+use Rattle.std.specs.List.{count_by}
 use Rattle.npm_words.specs.Coerced as Npm
 
 -- ---- runs
@@ -100,8 +100,7 @@ pub ruleset last_places = (last_before, take_rest)
 -- no dot begins a list with its mark
 unmarked-dot : (included strict : Bool) (mark : ℕ) (p more : List ℕ) (l : List Id) → (mark == 46) ≡ false
     → IsMarkedList included strict mark p more l → 0 < dotted_len (p ++ more) → p ≡ []
-unmarked-dot included strict mark p more l other (unmarked rest h) dot = refl
-unmarked-dot included strict mark p more l other (marked t rest inc all stop) dot = absurd (omega (arith, rw other at dot))
+unmarked-dot included strict mark p more l other h dot = grind (arith, nat_tests)
 
 module _ {included : Bool} {text x y z : List ℕ} (is : IsContinuedIn included text x y z) where
   abbrev behind : List ℕ

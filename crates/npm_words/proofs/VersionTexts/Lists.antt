@@ -2,14 +2,13 @@
 use Rattle.npm_words.proofs.Common.{Bool, Id, List, [], all_weaker, and-true, and_parts, ap, arith, begins, begins_identifier, begins_padded}
 use Rattle.npm_words.proofs.Common.{cases_Bool, drop, eqb-true, false, get_or, has_leading_zero, identifier_of, inl, inr, is_ascii_digit}
 use Rattle.npm_words.proofs.Common.{is_identifier, is_identifier_char, length, length-drop, list_all, listed, map, nat_tests, not, onto_first}
-use Rattle.npm_words.proofs.Common.{or_parts, pieces, prefix_len, refl, suc, sym, take, take_rest, take_while, true, zero, ℕ, ◌&&◌, ◌++◌}
-use Rattle.npm_words.{proofs.{Common.{◌+◌, ◌-◌, ◌<◌, ◌==◌, ◌∷◌, ◌≡◌, ◌≤◌}, Grammar.Runs.{run-behind, while-on}}, specs.Coerced.IsMarkedList}
+use Rattle.npm_words.proofs.Common.{or_parts, pieces, prefix_len, refl, suc, sym, take, take_rest, take_while, true, zero, ℕ, ◌&&◌, ◌++◌, ◌+◌, ◌-◌}
+use Rattle.npm_words.{proofs.{Common.{◌<◌, ◌==◌, ◌∙◌, ◌∷◌, ◌≡◌, ◌≤◌}, Grammar.Runs.{run-behind, while-on}}, specs.Coerced.IsMarkedList}
 use Rattle.npm_words.specs.{Coerced.{begins_identifier_in, goes_on_in, is_identifier_in, marked, unmarked}, Internal.Tuples.{IsStretch, list_len_in}}
 use Rattle.{npm_words.specs.Internal.Tuples.marked_len, semver_core.proofs.Reading.{IdentifierLists.written-spelled, Qualifiers.byte-begins}}
-use Rattle.{semver_core.{proofs.Text.Ends.{is_spelled, nothing_listed, nothing_spelled}, specs.Text.Identifiers.is_listed}, std.proofs.Common.add-one}
-use Rattle.npm_words.proofs.Common.{◌∙◌}
-use Rattle.semver_core.proofs.Text.Runs.{drop_one, prefix_each, take_one}
-use Rattle.std.proofs.{Math.Seq.drop-cons, lemmas.List.{Splits.length-slice_split, drop-drop, drop_all}}
+use Rattle.semver_core.proofs.Text.{Ends.{is_spelled, nothing_listed, nothing_spelled}, Runs.{drop_one, prefix_each, take_one}}
+use Rattle.{semver_core.specs.Text.Identifiers.is_listed, std.proofs.{Common.add-one, Math.Seq.drop-cons, lemmas.List.Splits.length-slice_split}}
+use Rattle.std.proofs.lemmas.List.{drop-drop, drop_all}
 
 -- ---- an identifier at the front
 
@@ -165,10 +164,6 @@ marked-read included strict mark p more l (marked t rest inc all stop) =
       grind (arith, nat_tests, is, are-read strict t rest is.1 is.2 stop),
       written-spelled t (map identifier_of (pieces t)) (record { runs = plain-ids strict (pieces t) all; spelled = refl }),
     )
-
-pub marked_listed : (included strict : Bool) (mark : ℕ) (text : List ℕ) (len : ℕ) → len ≡ marked_len included strict mark text
-    → is_listed (drop 1 (take len text)) ≡ true
-marked_listed included strict mark text len e = rw e (marked-found included strict mark text).1
 
 -- ---- a stretch
 

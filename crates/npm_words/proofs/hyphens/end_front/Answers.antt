@@ -1,7 +1,7 @@
 use Rattle.npm_words.proofs.Common.{Bool, Front, List, None, Some, ap, arith, capped_in, capped_partial, drop, drop_ends, end_front, ended_as}
-use Rattle.npm_words.proofs.Common.{first_as, length, length-append, length-drop, npm_partial_view, rules, take, ℕ, ◌++◌}
-use Rattle.npm_words.{proofs.{Common.{◌+◌, ◌-◌, ◌>>?◌, ◌∙◌, ◌≡◌, ◌≤◌}, Grammar.Hyphens.partial-le}, specs.Internal.Words.places_front}
-use Rattle.{npm_words.specs.Table.Partial, std.proofs.{Math.Seq.take-append-add, lemmas.List.{drop-append-le, take-append-drop}}}
+use Rattle.npm_words.proofs.Common.{first_as, length, length-append, length-drop, npm_partial_view, rules, take, ℕ, ◌++◌, ◌+◌, ◌-◌, ◌>>?◌, ◌∙◌, ◌≡◌}
+use Rattle.npm_words.{proofs.{Common.◌≤◌, Grammar.Hyphens.partial-le}, specs.{Internal.Words.places_front, Table.Partial}}
+use Rattle.std.proofs.{Math.Seq.take-append-add, lemmas.List.{drop-append-le, take-append-drop}}
 use Rattle.npm_words.proofs.hyphens.end_front.Goals as goal
 
 end-is : (loose : Bool) (text behind : List ℕ) (o : Front Partial) → behind ≡ drop_ends text → o ≡ first_as capped_partial (places_front loose behind)
