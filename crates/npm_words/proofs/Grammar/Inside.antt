@@ -1,5 +1,5 @@
 -- The partials inside a malformed word, in front of a `=`: the functions find them exactly where the statement has them.
-use Rattle.npm_words.proofs.Common.{Bool, List, None, Option, Some, [], and_parts, ap, arith, begins, bytes_eq-Decides, cases_Bool, codes}
+use Rattle.npm_words.proofs.Common.{Bool, List, None, Option, Some, [], and_parts, ap, arith, bytes_eq-Decides, cases_Bool, codes}
 use Rattle.npm_words.proofs.Common.{common_steps, drop, drop_at, empty_is, false, if◌then◌else◌, inl, inr, is_ascii_digit, is_empty, length}
 use Rattle.npm_words.proofs.Common.{length-append, length-drop, nat_tests, not, prefix_len, refl, subst, suc, sym, take, take-append-drop, take_at}
 use Rattle.npm_words.proofs.Common.{take_rest, takes, true, zero, ℕ, ◌&&◌, ◌++◌, ◌-◌, ◌<◌, ◌==◌, ◌||◌, ◌∙◌, ◌∷◌, ◌≡◌, ◌≤◌}
@@ -9,9 +9,6 @@ use Rattle.npm_words.specs.{Internal.Words.takes_on, Malformed.{AreInside, IsIns
 use Rattle.{semver_core.proofs.Text.Runs.{prefix_each, prefix_ends}, std.{proofs.Math.Bool.or-true, specs.List.{ends_with, position}}}
 
 -- ---- the first place
-
-starts-apart : (text : List ℕ) → starts_place text ≡ true → begins is_apart text ≡ false
-starts-apart text h = grind (arith, nat_tests, common_steps)
 
 abbrev is_placed : List ℕ → Bool
 is_placed text = not (is_empty (from_place text))
@@ -99,7 +96,7 @@ pub inside-read : (text : List ℕ) → AreInside text → are_inside (length te
 inside-read text none = nil-inside
 inside-read text (more front x rest h i longest k) =
     let starts = inside-starts x rest i in
-    let first : from_place (front ++ (x ++ rest)) ≡ x ++ rest = run-exact is_apart front (x ++ rest) h (starts-apart (x ++ rest) starts) in
+    let first : from_place (front ++ (x ++ rest)) ≡ x ++ rest = run-exact is_apart front (x ++ rest) h (grind (arith, nat_tests, common_steps)) in
     let on : is_placed (front ++ (x ++ rest)) ≡ true = rw first (grind arith) in
     go (front ++ (x ++ rest)) on ∙ rw (first, longest-read x rest i longest) (inside-read rest k)
 

@@ -20,7 +20,7 @@ pub ruleset prefix_steps = (prefix_len-drop_all, prefix_len-drop_no, prefix_len-
 
 -- ---- runs of digits
 
-pub some-run : (run : List ℕ) → 1 ≤ length run → not (is_empty run) ≡ true
+some-run : (run : List ℕ) → 1 ≤ length run → not (is_empty run) ≡ true
 some-run run h = grind (arith, nat_tests, common_steps)
 
 pub digits-begin : (digits : List ℕ) → 0 < length digits → list_all is_ascii_digit digits ≡ true → begins is_ascii_digit digits ≡ true
@@ -42,7 +42,7 @@ place-read : (loose : Bool) (x more : List ℕ) (a : Option ℕ) → IsPlace loo
 unfolding place_front
 place-read loose x more a (Text.any b h) stop = rw h refl
 place-read loose x more a (Text.number digits n k spelled short) stop =
-    grind (arith, nat_tests, common_steps, number-no_wildcard, digits-begin, digits-taken, take_at, drop_at, some-run)
+    grind (arith, nat_tests, common_steps, number-no_wildcard, digits-begin, digits-taken, take_at, drop_at)
 
 -- how many digits a third place takes
 pub patch-exact : (loose : Bool) (run rest : List ℕ) → list_all is_ascii_digit run ≡ true → Follows loose rest
@@ -57,7 +57,7 @@ unfolding patch_place place_front
 patch-read loose run rest n k spelled short f =
     let text = run ++ rest in
     let dark = number-no_wildcard run rest (digits-begin run k.some k.each) in
-    let fits : run_place loose run rest ≡ Some (Some n, rest) = grind (arith, some-run run, k.some, k.value) in
+    let fits : run_place loose run rest ≡ Some (Some n, rest) = grind (arith, nat_tests, common_steps, k.some, k.value) in
     let len = patch-exact loose run rest k.each f in
     let front = take_at run rest (length run) refl in
     let behind = drop_at run rest (length run) refl in

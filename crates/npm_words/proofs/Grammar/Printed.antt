@@ -17,12 +17,9 @@ use Rattle.npm_words.specs.Internal.Parts as Parts
 
 -- ---- lengths
 
-decimal_short : (n : ℕ) → n ≤ MAX_SAFE_INTEGER → length (decimal n) ≤ 16
-decimal_short n h = length-decimal-le 16 n (omega arith) (omega arith) (omega arith)
-
 -- what numbers up to the limit print, with the dots between them
 pub numbers_short : (n : Numbers) → within n ≡ true → length (decimal n.0) + length (decimal n.1) + length (decimal n.2) + 2 ≤ 50
-numbers_short n h = grind (arith, nat_tests, common_steps, and_parts, decimal_short)
+numbers_short n h = grind (arith, nat_tests, common_steps, and_parts, length-decimal-le 16)
 
 pub text_length : (v : VersionValue) → length (version_text (Parts.no_build v))
     ≡ (length (decimal v.major) + length (decimal v.minor) + length (decimal v.patch) + 2) + length (marked_list (45 ∷ []) v.pre_release)

@@ -249,18 +249,15 @@ read_loose text = whole_version true 9007199254740991 text
 abbrev tagged : List Id → List Id → Option VersionValue
 tagged pre build = Some (record { major = 1; minor = 2; patch = 3; pre_release = pre; build = build })
 
-row-loose : map read_loose (codes "1.2.3" ∷ codes "=v 01.02.003" ∷ codes "1.2.3-01" ∷ codes "1.2.3beta+07" ∷ codes "1.2.3-" ∷ codes "1.2.3--"
+-- what is read, and not: a missing number, what stands behind, no digit left for the patch number, the mark `V`, a number past the limit
+row-loose : (map read_loose (codes "1.2.3" ∷ codes "=v 01.02.003" ∷ codes "1.2.3-01" ∷ codes "1.2.3beta+07" ∷ codes "1.2.3-" ∷ codes "1.2.3--"
     ∷ codes "1.2.34.5" ∷ [])
     ≡ tagged [] [] ∷ tagged [] [] ∷ tagged (Numeric 1 ∷ []) [] ∷ tagged (AlphaNumeric (codes "beta") ∷ []) (Numeric 7 ∷ [])
-    ∷ tagged (AlphaNumeric (codes "-") ∷ []) [] ∷ tagged (AlphaNumeric (codes "-") ∷ []) [] ∷ tagged (Numeric 4 ∷ Numeric 5 ∷ []) [] ∷ []
+    ∷ tagged (AlphaNumeric (codes "-") ∷ []) [] ∷ tagged (AlphaNumeric (codes "-") ∷ []) [] ∷ tagged (Numeric 4 ∷ Numeric 5 ∷ []) [] ∷ [])
+    × (list_any (λ (text : List ℕ). is_some (read_loose text)) (codes "1.2" ∷ codes "1.2.3.4" ∷ codes "1.2.3 4" ∷ codes "1.2.34." ∷ codes "V1.2.3"
+    ∷ codes "1.2.3+" ∷ codes "1.2.3a..b" ∷ codes "0.0.9007199254740992" ∷ []) ≡ false)
 unfolding whole_version number_with patch_front qualified_version pre_front pre_release_with pre_release_front build_front number_of list_len listed after_ends space_len
-row-loose = refl
-
--- a missing number, what stands behind, no digit left for the patch number, the mark `V`, a number past the limit
-row-rejected-loose : list_any (λ (text : List ℕ). is_some (read_loose text)) (codes "1.2" ∷ codes "1.2.3.4" ∷ codes "1.2.3 4" ∷ codes "1.2.34." ∷ codes "V1.2.3"
-    ∷ codes "1.2.3+" ∷ codes "1.2.3a..b" ∷ codes "0.0.9007199254740992" ∷ []) ≡ false
-unfolding whole_version number_with patch_front qualified_version pre_front pre_release_with pre_release_front build_front number_of list_len listed after_ends space_len
-row-rejected-loose = refl
+row-loose = (refl, refl)
 
 -- the longest tuple at the front
 row-tuples : map tuple_len (codes "1.2.3.4" ∷ codes "1.2.x" ∷ codes "20.11 (LTS)" ∷ codes "x1" ∷ codes "1..2" ∷ codes "1234567890123456"
@@ -285,7 +282,8 @@ read text = whole_version false 9007199254740991 text
 abbrev is_read : List ℕ → Bool
 is_read text = is_some (read text)
 
-row-versions : map read (codes "1.2.3" ∷ codes "v0.20.0" ∷ codes "1.2.3-0.a-1.00a+007.x" ∷ codes "0.0.9007199254740991" ∷ [])
+-- what is read, and not: a missing number, leading zeros, a number past the limit, a missing hyphen, other marks, a mark with a blank, what stands behind
+row-versions : (map read (codes "1.2.3" ∷ codes "v0.20.0" ∷ codes "1.2.3-0.a-1.00a+007.x" ∷ codes "0.0.9007199254740991" ∷ [])
     ≡ Some (release_value 1 2 3) ∷ Some (release_value 0 20 0)
     ∷ Some (record {
       major = 1;
@@ -294,13 +292,9 @@ row-versions : map read (codes "1.2.3" ∷ codes "v0.20.0" ∷ codes "1.2.3-0.a-
       pre_release = Numeric 0 ∷ AlphaNumeric (codes "a-1") ∷ AlphaNumeric (codes "00a") ∷ [];
       build = Numeric 7 ∷ AlphaNumeric (codes "x") ∷ [];
     })
-    ∷ Some (release_value 0 0 9007199254740991) ∷ []
-unfolding whole_version patch_front number_with qualified_version pre_front pre_release_with pre_release_front build_front number_of list_len listed
-row-versions = refl
-
--- a missing number, leading zeros, a number past the limit, a missing hyphen, other marks, a mark with a blank, what stands behind
-row-rejected : list_any is_read (codes "1.2" ∷ codes "01.2.3" ∷ codes "1.2.00" ∷ codes "1.2.3-01" ∷ codes "1.2.3-a.00" ∷ codes "0.0.9007199254740992"
+    ∷ Some (release_value 0 0 9007199254740991) ∷ [])
+    × (list_any is_read (codes "1.2" ∷ codes "01.2.3" ∷ codes "1.2.00" ∷ codes "1.2.3-01" ∷ codes "1.2.3-a.00" ∷ codes "0.0.9007199254740992"
     ∷ codes "1.2.3beta" ∷ codes "V1.2.3" ∷ codes "=1.2.3" ∷ codes "v 1.2.3" ∷ codes "1.2.3.4" ∷ codes "1.2.3-" ∷ codes "1.2.3-a..b" ∷ codes "1.2.3+"
-    ∷ codes "1.2.3+a+b" ∷ codes "1.2.x" ∷ []) ≡ false
+    ∷ codes "1.2.3+a+b" ∷ codes "1.2.x" ∷ []) ≡ false)
 unfolding whole_version patch_front number_with qualified_version pre_front pre_release_with pre_release_front build_front number_of list_len listed
-row-rejected = refl
+row-versions = (refl, refl)

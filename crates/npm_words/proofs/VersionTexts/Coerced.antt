@@ -199,9 +199,6 @@ Chosen = Bool → List ℕ → List ℕ → List ℕ → List ℕ → Type 0
 abbrev pub Chooses : Chosen → Bool → List ℕ → ℕ → Type 0
 Chooses C included text at = (p : Place included text at) × C included text p.front p.whole p.back
 
-pub last_begin : (included : Bool) (text : List ℕ) → IsLastBefore included text 0 0 0
-last_begin included text = grind (arith, nat_tests, common_steps)
-
 pub chosen : (included rtl : Bool) (text : List ℕ) (at : ℕ) → IsChosenPlace included rtl text at → Chooses (IsChosenFrom rtl) included text at
 chosen included false text at h = let p = place included text at h.inside h.here in (
   p,
