@@ -8,6 +8,7 @@ use Rattle.{npm_words.specs.Internal.Inside.{begins_dotted_id, behind_id, behind
 use Rattle.semver_core.{proofs.{Reading.Qualifiers.byte-begins, Text.Runs.{not_dot, prefix_each}}, specs.Text.Characters.is_identifier_char}
 use Rattle.{semver_core.specs.Text.Identifiers.{goes_on, is_identifier}, std.proofs.lemmas.List.Splits.join_with_byte-slice_split}
 use Rattle.std.proofs.lemmas.List.Splits.{length-slice_split}
+use Rattle.semver_core.proofs.Printing.Returns.{pieces_joined}
 
 pub drop-le : (n : ℕ) (x rest : List ℕ) → length x ≤ n → length (drop n (x ++ rest)) ≤ length rest
 drop-le n x rest h = omega (arith, h, length-drop n (x ++ rest), length-append x rest)
@@ -103,10 +104,6 @@ pieces-next : (id rest : List ℕ) → list_all is_identifier_char id ≡ true �
 pieces-next [] rest h = refl
 pieces-next (c ∷ id) rest h = grind (arith, common_steps, not_dot c, pieces-next id rest)
 
-pieces-last : (id : List ℕ) → list_all is_identifier_char id ≡ true → pieces id ≡ id ∷ []
-pieces-last [] h = refl
-pieces-last (c ∷ id) h = grind (arith, common_steps, not_dot c, pieces-last id)
-
 id-found : (strict : Bool) (text : List ℕ) → begins_identifier text ≡ true → At (λ id s. is_good s id ≡ true) text strict (behind_id strict text)
 id-found strict [] h = cc h
 id-found strict (c ∷ text) h = rw (behind-is strict c text) (elim (cases_Bool (strict && (c == 48))) [
@@ -130,7 +127,7 @@ ids-found (suc n) strict text h k =
     let rest = behind_id strict text in
     let each : list_all is_identifier_char one.piece ≡ true = grind (arith, one.is) in
     elim (cases_Bool (begins_dotted_id rest)) [
-      | inr stop ↦ rw stop (record { piece = one.piece; split = one.split; is = rw (pieces-last one.piece each, one.is) refl })
+      | inr stop ↦ rw stop (record { piece = one.piece; split = one.split; is = rw (pieces_joined one.piece [] (grind (arith, one.is)), one.is) refl })
       | inl on ↦
           let p = and_parts (begins_byte 46 rest) (begins_identifier (drop 1 rest)) on in
           let r = ids-found n strict (drop 1 rest) p.1 (omega (arith, dot-less strict text on, k)) in

@@ -112,11 +112,7 @@ patch-found : (loose : Bool) (text : List ℕ) (a : Option ℕ) (rest : List ℕ
     → At (IsPlace loose) text a rest
 unfolding patch_place
 patch-found loose text a rest h =
-    let n = prefix_len is_ascii_digit text in
-    elim (cases_Bool (loose && begins_byte 46 (drop n text))) [
-      | inr bare ↦ place-found loose text a rest (rw bare at h)
-      | inl cut ↦ cut-found loose (n - 1) text a rest (omega arith) (rw cut at h)
-    ]
+    let cut = cut-found loose (prefix_len is_ascii_digit text - 1) text a rest (omega arith) in grind (arith, place-found)
 
 -- ---- nothing goes on at a boundary
 

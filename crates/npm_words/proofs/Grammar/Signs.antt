@@ -168,10 +168,7 @@ space-byte : (c : ℕ) (text : List ℕ) → is_solid c ≡ true → 0 < space_l
 space-byte c text s h = grind (arith, nat_tests, common_steps, solid-dark, eqb-true)
 
 pub blank-byte : (c : ℕ) (x text : List ℕ) → is_solid c ≡ true → IsBlank x → begins_byte c text ≡ false → begins_byte c (x ++ text) ≡ false
-blank-byte c x text s h other = elim (blank-cases x h) [
-  | inl none ↦ rw none other
-  | inr some ↦ space-byte c (x ++ text) s (some text)
-]
+blank-byte c x text s h other = grind (arith, blank-cases x h, space-byte)
 
 -- ---- marks before a partial
 

@@ -73,10 +73,7 @@ word-read loose include w y rest cs (word signs marks x s p h m e k) b =
 -- ---- whitespace
 
 pub blank-space : (blank rest : List ℕ) → IsBlank blank → 0 < length blank → 0 < space_len (blank ++ rest)
-blank-space blank rest h some = elim (blank-cases blank h) [
-  | inl e ↦ absurd (omega (arith, some, ap length e))
-  | inr white ↦ white rest
-]
+blank-space blank rest h some = grind (arith, blank-cases blank h)
 
 pub blank-boundary : (blank rest : List ℕ) → IsBlank blank → 0 < length blank → is_boundary (blank ++ rest) ≡ true
 unfolding is_boundary
