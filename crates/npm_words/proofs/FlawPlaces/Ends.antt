@@ -37,9 +37,7 @@ marks-of text rest u s =
 
 first-once : (text a b : List ℕ) → IsFirstBoundary text a → IsFirstBoundary text b → a ≡ b
 first-once text a b f g =
-    let one = f.3 g.0 b g.1 g.2 in
-    let two = g.3 f.0 a f.1 f.2 in
-    let same : length g.0 ≡ length f.0 = omega (arith, one, two) in
+    let same : length g.0 ≡ length f.0 = omega (arith, f.3 g.0 b g.1 g.2, g.3 f.0 a f.1 f.2) in
     cc (drop_at f.0 a (length f.0) refl, drop_at g.0 b (length f.0) same, f.1, g.1)
 
 place-is : (text : List ℕ) → IsUtf8 text → IsEndPlace text (behind_end text)
@@ -199,8 +197,7 @@ module _ (include : Bool) (text : List ℕ) (u : IsUtf8 text) where
   one_wrong_end a b c d (lower h bad s e) (lower k other t f) = let same = form-once text u h k in (cc, cc (e, f, ap length same.0))
   one_wrong_end a b c d (lower h bad s e) (upper k low other t f) = absurd (bad (rw (form-once text u h k).0 low))
   one_wrong_end a b c d (upper h low bad s e) (lower k other t f) = absurd (other (rw (form-once text u k h).0 low))
-  one_wrong_end a b c d (upper h low bad s e) (upper k lower' other t f) =
-      let same = form-once text u h k in (omega (arith, s, t, ap length same.1), cc (e, f))
+  one_wrong_end a b c d (upper h low bad s e) (upper k lower' other t f) = (omega (arith, s, t, ap length (form-once text u h k).1), cc (e, f))
 
   pub one_malformed_part : (a b c d : ℕ) → IsMalformedPart MAX_SAFE_INTEGER include text a b → IsMalformedPart MAX_SAFE_INTEGER include text c d
       → (a ≡ c) × (b ≡ d)

@@ -131,7 +131,7 @@ taken-read piece rest (inr (front, split, is, place)) =
     let e = equal-read front in rw (split, e.0, e.1, inside-read front is, place) (or-true _)
 
 pub taken-not : (piece rest : List ℕ) → (IsTaken piece rest → ⊥) → takes_on piece rest ≡ false
-taken-not piece rest h = elim (cases_Bool (takes_on piece rest)) [ inl on ↦ absurd (h (taken-found piece rest on)) | inr off ↦ off ]
+taken-not piece rest h = grind (arith, taken-found piece rest)
 
 pub not-taken : (piece rest : List ℕ) → takes_on piece rest ≡ false → IsTaken piece rest → ⊥
 not-taken piece rest off t = cc (taken-read piece rest t, off)

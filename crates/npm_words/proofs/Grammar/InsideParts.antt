@@ -57,16 +57,13 @@ pre-found strict wild text = elim (cases_Bool (is_dashed text)) [
     | inr off ↦ rw (other, off) ([], [], refl, refl, no_pre_release)
     | inl on ↦
         let t = and_parts (not strict) (begins is_ascii_alphabetic text || begins_byte 45 text) on in
-        let r = ids-found (length text) strict text (bare-begins text t.1) (omega arith) in
+        let r = ids-found (length text) strict text (grind (arith, nat_tests, t.1)) (omega arith) in
         let b = good-fits strict r.piece r.is in
         let u = bare-parts r.piece (behind_ids (length text) strict text) r.is (rw r.split at t.1) (rw r.split at other) in
         rw (other, on) (r.piece, _, r.split, u.1, bare r.piece _ b.0 b.1 (ap₂ ◌&&◌ t.0 (u.0 (strict && wild))))
   ]
 ]
   where
-    bare-begins : (text : List ℕ) → (begins is_ascii_alphabetic text || begins_byte 45 text) ≡ true → begins_identifier text ≡ true
-    bare-begins text k = grind (arith, nat_tests)
-
     bare-parts : (ids rest : List ℕ) → are_good strict ids ≡ true → (let all = ids ++ rest in begins is_ascii_alphabetic all || begins_byte 45 all) ≡ true
         → is_dashed (ids ++ rest) ≡ false → ((wild : Bool) → begins_undashed wild ids ≡ true) × (begins is_ascii_digit ids ≡ false)
     bare-parts ids rest g h k = (λ wild. grind (arith, nat_tests), grind (arith, nat_tests))
@@ -352,13 +349,7 @@ nothing-read strict text h k = grind (arith, nat_tests)
 pub partial-found : (text : List ℕ) → starts_place text ≡ true → InsideAt text (behind_partial text)
 partial-found text h =
     let (strict, is) = which text in
-    elim (cases_Bool (starts strict text)) [
-      | inl on ↦ elim (places-found strict text on) [
-        | inr found ↦ rw is found
-        | inl none ↦ absurd (omega (arith, partial-less text h, ap length is, ap length none))
-      ]
-      | inr off ↦ absurd (omega (arith, partial-less text h, ap length is, ap length (nothing-read strict text h off)))
-    ]
+    grind (arith, places-found strict text, partial-less text h, nothing-read strict text h)
 
 -- ---- the digits that count
 

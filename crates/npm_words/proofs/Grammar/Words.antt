@@ -200,8 +200,7 @@ begins-longer : (loose include : Bool) (text rest : List ℕ) (cs : Option (List
 begins-longer loose include text rest cs u (ignored behind l some absent i s) = grind (arith, nat_tests)
 begins-longer loose include text rest cs u (formed partial behind ds w short s) =
     let r = word-read loose include w.0 partial behind ds w.2 (boundary-of behind w.3) in
-    let here : signed_word loose text ≡ Some (r.word, behind) = ap (λ (t : List ℕ). signed_word loose t) w.1 ∙ r.read in
-    omega (arith, (signed-found loose include text r.word behind u here).shorter)
+    omega (arith, (signed-found loose include text r.word behind u (ap (signed_word loose) w.1 ∙ r.read)).shorter)
 
 pub words-read : (loose include : Bool) (n : ℕ) (text : List ℕ) (all : List (Option (List Comparison))) → IsUtf8 text → AreWords loose include text all
     → length text ≤ n → words_within loose include n text ≡ Some all

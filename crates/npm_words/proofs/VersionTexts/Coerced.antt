@@ -293,8 +293,7 @@ module _ {included : Bool} {text x y z : List ℕ} (is : IsContinuedIn included 
 
 mapped : (f : VersionValue → VersionValue) (o : Option VersionValue) (v : VersionValue) → option_map f o ≡ Some v
     → (r : VersionValue) × (o ≡ Some r) × (v ≡ f r)
-mapped f None v e = cc e
-mapped f (Some r) v e = (r, refl, sym (same_Some _ _ e))
+mapped f o v e = grind arith
 
 -- all that is chosen begins at one place, and reaches as far as anything there
 pub record IsSettled (C : Chosen) : Type 0 where
