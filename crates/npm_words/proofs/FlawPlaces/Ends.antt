@@ -8,7 +8,7 @@ use Rattle.npm_words.proofs.{Common.{◌∙◌, ◌∷◌, ◌≡◌, ◌≤◌}
 use Rattle.npm_words.proofs.Grammar.Hyphens.{end-normal, end-read, ends-found, ends-read, free-capped, front-is, normal-capped, right-end}
 use Rattle.npm_words.{proofs.Grammar.Printed.{capped-valid, lower-invalid, upper-invalid}, specs.Internal.Ends.{behind_end, is_lower, is_right_one}}
 use Rattle.npm_words.specs.{Internal.{Ends.is_upper, Words.{after_dash, end_len}}, MalformedEnds.{HasEnds, IsEndPlace, IsLower, IsMalformedPart}}
-use Rattle.npm_words.specs.{MalformedEnds.{IsRightEnd, IsUpper, IsWrongEnd, SkipsMarks, a_word, an_end, lower, upper}, Table.Partial}
+use Rattle.npm_words.specs.{MalformedEnds.{IsRightEnd, IsWrongEnd, SkipsMarks, a_word, an_end, lower, upper}, Table.Partial}
 use Rattle.semver_core.{proofs.Reading.Boundaries.{blank-len, boundary-utf8, first-is, some_space-is}, specs.Text.Boundaries.IsFirstBoundary}
 use Rattle.{semver_core.specs.Values.Versions.VersionValue, semver_pieces.specs.declared.bounds.Bounds.Bounds}
 use Rattle.std.proofs.lemmas.Str.{IsCharBoundary-at_seam, IsUtf8-take}
@@ -172,9 +172,6 @@ module _ (include : Bool) (text : List ℕ) (u : IsUtf8 text) where
     lower-right : (k : HasEnds text) → is_lower include e.0 ≡ true → IsLower MAX_SAFE_INTEGER include k.first
     lower-right k good = right-found _ _ k.first (form-utf8 text u k).0 (grind (arith, form-read text u k))
 
-    upper-right : (k : HasEnds text) → is_upper include e.1 ≡ true → IsUpper MAX_SAFE_INTEGER include k.second
-    upper-right k good = right-found _ _ k.second (form-utf8 text u k).1 (grind (arith, form-read text u k))
-
     pub upper-wrong : (start : ℕ) → is_lower include e.0 ≡ true → is_upper include e.1 ≡ false → start + length e.1 ≡ length text → Wrong start (length text)
     upper-wrong start good bad size =
         let f = form-found text e u h in
@@ -182,7 +179,7 @@ module _ (include : Bool) (text : List ℕ) (u : IsUtf8 text) where
 
     pub both-right : is_lower include e.0 ≡ true → is_upper include e.1 ≡ true → (start end : ℕ) → Wrong start end → ⊥
     both-right low high start end (lower k bad s t) = bad (lower-right k low)
-    both-right low high start end (upper k is bad s t) = bad (upper-right k high)
+    both-right low high start end (upper k is bad s t) = bad (right-found _ _ k.second (form-utf8 text u k).1 (grind (arith, form-read text u k)))
 
   -- what stands behind the dash is within the text
   pub form-fits : (e : List ℕ × List ℕ) → end_texts text ≡ Some e → (length e.0 ≤ length text) × (length e.1 ≤ length text)

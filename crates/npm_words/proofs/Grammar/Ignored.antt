@@ -8,10 +8,6 @@ use Rattle.{npm_words.specs.Malformed.stops, semver_core.proofs.Reading.Boundari
 use Rattle.semver_core.proofs.{Reading.Boundaries.{skips-of, skips-utf8, spaces-le}, Text.Spaces.after_spaces-drop}
 use Rattle.semver_core.specs.Text.{Boundaries.IsFirstBoundary, Characters.BeginsBlank}
 
-takes-some : (piece rest : List ℕ) → takes_on piece rest ≡ true → 0 < length piece
-unfolding takes_on
-takes-some piece rest h = grind arith
-
 -- ---- the loop that looks for the end
 
 -- what stands behind the first piece belongs to it
@@ -19,9 +15,11 @@ abbrev goes : List ℕ → Bool
 goes text = takes_on (take (length text - length (from_boundary text)) text) (drop_spaces (from_boundary text))
 
 pub taken-less : (text : List ℕ) → goes text ≡ true → length (drop_spaces (from_boundary text)) < length text
+unfolding takes_on
 taken-less text h =
     let n = length text - length (from_boundary text) in
-    omega (arith, takes-some (take n text) (drop_spaces (from_boundary text)) h, length-take-le n text, spaces-le (from_boundary text), boundary-le text)
+    let some : 0 < length (take n text) = grind arith in
+    omega (arith, some, length-take-le n text, spaces-le (from_boundary text), boundary-le text)
 
 nil-end : behind_ignored 0 [] ≡ from_boundary []
 unfolding behind_ignored from_boundary

@@ -128,14 +128,11 @@ unfolding digits written_zeros
 row-zero = refl
 
 -- `>1 <1` accepts neither `1.0.0` nor `2.0.0`; `>* || 1` accepts `1.0.0`
-row-nothing : map (accepts false ((table false (compared above) (major 1) [] ++ table false (compared below) (major 1) []) ∷ []))
-    (release_value 1 0 0 ∷ release_value 2 0 0 ∷ []) ≡ false ∷ false ∷ []
+row-nothing : (map (accepts false ((table false (compared above) (major 1) [] ++ table false (compared below) (major 1) []) ∷ []))
+    (release_value 1 0 0 ∷ release_value 2 0 0 ∷ []) ≡ false ∷ false ∷ [])
+    × (accepts false (table false (compared above) wildcard [] ∷ (table false (compared equal) (major 1) [] ∷ [])) (release_value 1 0 0) ≡ true)
 unfolding digits written_zeros
-row-nothing = refl
-
-row-beside_nothing : accepts false (table false (compared above) wildcard [] ∷ (table false (compared equal) (major 1) [] ∷ [])) (release_value 1 0 0) ≡ true
-unfolding digits written_zeros
-row-beside_nothing = refl
+row-nothing = (refl, refl)
 
 -- `>9007199254740991` is rejected for its number, and `<9007199254740991` is not
 row-limit : map (λ s. map (is_valid 9007199254740991) (table false (compared s) (major 9007199254740991) [])) (above ∷ below ∷ [])
