@@ -1,8 +1,8 @@
 -- How far a malformed word goes: the function that looks for its end finds exactly what the statement has.
 use Rattle.npm_words.proofs.Common.{Bool, IsIgnored, IsUtf8, List, [], after_spaces, ap, arith, behind_ignored, cases_Bool, drop_spaces, encode_utf8}
 use Rattle.npm_words.proofs.Common.{false, from_boundary, if◌then◌else◌, inl, inr, is_boundary, len_utf8_bounds, length, length-append, length-drop}
-use Rattle.npm_words.proofs.Common.{length-encode, length-take-le, nat_tests, refl, space_len, space_len-nil, subst, suc, take, true, zero, ℕ}
-use Rattle.npm_words.proofs.{Common.{◌-◌, ◌<◌, ◌∙◌, ◌∷◌, ◌≡◌, ◌≤◌}, Grammar.Inside.{not-taken, taken-found, taken-not, taken-read}}
+use Rattle.npm_words.proofs.Common.{length-encode, length-take-le, nat_tests, refl, space_len, space_len-nil, subst, suc, take, true, zero, ℕ, ◌-◌}
+use Rattle.npm_words.proofs.{Common.{◌<◌, ◌∙◌, ◌∷◌, ◌≡◌, ◌≤◌}, Grammar.Inside.{not-taken, taken-found, taken-not, taken-read}}
 use Rattle.npm_words.{proofs.Grammar.{PartialLaw.front-text, Runs.{steps-go, steps-stop}}, specs.{Internal.Words.takes_on, Malformed.goes_on}}
 use Rattle.{npm_words.specs.Malformed.stops, semver_core.proofs.Reading.Boundaries.{boundary-le, boundary-utf8, first-is, first-of, skips-is}}
 use Rattle.semver_core.proofs.{Reading.Boundaries.{skips-of, skips-utf8, spaces-le}, Text.Spaces.after_spaces-drop}

@@ -1,12 +1,12 @@
 -- The partials inside a malformed word, in front of a `=`: the functions find them exactly where the statement has them.
-use Rattle.npm_words.proofs.Common.{Bool, List, None, Option, Some, [], and_parts, ap, arith, bytes_eq-Decides, cases_Bool, codes}
-use Rattle.npm_words.proofs.Common.{common_steps, drop, drop_at, empty_is, false, if◌then◌else◌, inl, inr, is_ascii_digit, is_empty, length}
-use Rattle.npm_words.proofs.Common.{length-append, length-drop, nat_tests, not, prefix_len, refl, subst, suc, sym, take, take-append-drop, take_at}
-use Rattle.npm_words.proofs.Common.{take_rest, takes, true, zero, ℕ, ◌&&◌, ◌++◌, ◌-◌, ◌<◌, ◌==◌, ◌||◌, ◌∙◌, ◌∷◌, ◌≡◌, ◌≤◌}
-use Rattle.npm_words.proofs.Grammar.{Characters.empty-length, InsideParts.{inside-starts, partial-found, partial-less, partial-max, starts_place}}
-use Rattle.npm_words.{proofs.Grammar.Runs.{run-exact, steps-go, steps-stop}, specs.Internal.Inside.{are_inside, behind_partial, from_place, is_apart}}
-use Rattle.npm_words.specs.{Internal.Words.takes_on, Malformed.{AreInside, IsInside, IsTaken, begins_place, more, none}}
-use Rattle.{semver_core.proofs.Text.Runs.{prefix_each, prefix_ends}, std.{proofs.Math.Bool.or-true, specs.List.{ends_with, position}}}
+use Rattle.npm_words.proofs.Common.{Bool, List, None, Option, Some, [], and_parts, ap, arith, bytes_eq-Decides, cases_Bool, codes, common_steps, drop}
+use Rattle.npm_words.proofs.Common.{drop_at, empty_is, false, if◌then◌else◌, inl, inr, is_ascii_digit, is_empty, length, length-append, length-drop}
+use Rattle.npm_words.proofs.Common.{nat_tests, not, prefix_len, refl, subst, suc, sym, take, take-append-drop, take_at, take_rest, takes, true, zero}
+use Rattle.npm_words.proofs.{Common.{ℕ, ◌&&◌, ◌++◌, ◌-◌, ◌<◌, ◌==◌, ◌||◌, ◌∙◌, ◌∷◌, ◌≡◌, ◌≤◌}, Grammar.Characters.empty-length}
+use Rattle.npm_words.proofs.Grammar.{InsideParts.{inside-starts, partial-found, partial-less, partial-max, starts_place}, Runs.{run-exact, steps-go}}
+use Rattle.npm_words.{proofs.Grammar.Runs.steps-stop, specs.Internal.{Inside.{are_inside, behind_partial, from_place, is_apart}, Words.takes_on}}
+use Rattle.{npm_words.specs.Malformed.{AreInside, IsInside, IsTaken, begins_place, more, none}, semver_core.proofs.Text.Runs.prefix_each}
+use Rattle.{semver_core.proofs.Text.Runs.prefix_ends, std.{proofs.Math.Bool.or-true, specs.List.{ends_with, position}}}
 
 -- ---- the first place
 

@@ -4,11 +4,10 @@ use Rattle.npm_words.proofs.Common.{cases_Bool, common_steps, drop, empty_is, fa
 use Rattle.npm_words.proofs.Common.{is_empty, join_with_byte, length, length-append, length-drop, list_all, nat_tests, not, pieces, prefix_len, refl}
 use Rattle.npm_words.proofs.Common.{suc, sym, take, take-append-drop, take_rest, true, zero, ℕ, ◌&&◌, ◌++◌, ◌+◌, ◌<◌, ◌==◌, ◌||◌, ◌∙◌, ◌∷◌, ◌≡◌, ◌≤◌}
 use Rattle.npm_words.proofs.Grammar.{Runs.{run-exact, run-many, steps-go, steps-stop, while-on}, VersionLaw.At}
-use Rattle.{npm_words.specs.Internal.Inside.{begins_dotted_id, behind_id, behind_ids}, semver_core.proofs.Reading.Bytes.begins-some}
-use Rattle.semver_core.{proofs.{Reading.Qualifiers.byte-begins, Text.Runs.{not_dot, prefix_each}}, specs.Text.Characters.is_identifier_char}
-use Rattle.{semver_core.specs.Text.Identifiers.{goes_on, is_identifier}, std.proofs.lemmas.List.Splits.join_with_byte-slice_split}
-use Rattle.std.proofs.lemmas.List.Splits.{length-slice_split}
-use Rattle.semver_core.proofs.Printing.Returns.{pieces_joined}
+use Rattle.{npm_words.specs.Internal.Inside.{begins_dotted_id, behind_id, behind_ids}, semver_core.proofs.Printing.Returns.pieces_joined}
+use Rattle.semver_core.proofs.{Reading.{Bytes.begins-some, Qualifiers.byte-begins}, Text.Runs.{not_dot, prefix_each}}
+use Rattle.semver_core.specs.Text.{Characters.is_identifier_char, Identifiers.{goes_on, is_identifier}}
+use Rattle.std.proofs.lemmas.List.Splits.{join_with_byte-slice_split, length-slice_split}
 
 pub drop-le : (n : ℕ) (x rest : List ℕ) → length x ≤ n → length (drop n (x ++ rest)) ≤ length rest
 drop-le n x rest h = omega (arith, h, length-drop n (x ++ rest), length-append x rest)

@@ -52,8 +52,7 @@ prints_zero v a b c =
 pub bare_short : (v : VersionValue) → within (first (whole v)) ≡ true → is_release v ≡ true
     → true ≡ nat_le (length (version_text (Parts.no_build v))) MAX_LENGTH
 bare_short v h e =
-    let none : v.pre_release ≡ [] = empty_is v.pre_release e in
-    rw (text_length v, none) (grind (arith, nat_tests, numbers_short (v.major, v.minor, v.patch) h))
+    rw (text_length v, empty_is v.pre_release e) (grind (arith, nat_tests, numbers_short (v.major, v.minor, v.patch) h))
 
 lowest_short : (n : Numbers) → within n ≡ true → nat_le (length (version_text (lowest n))) MAX_LENGTH ≡ true
 lowest_short n h = rw (text_length (lowest n)) (grind (arith, nat_tests, common_steps, decimal_digit, numbers_short n h))

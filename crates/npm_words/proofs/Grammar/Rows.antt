@@ -3,14 +3,14 @@
 use Rattle.npm_words.proofs.Common.{AreRead, Before, Bool, Bound, Bounds, Comparator, Comparison, IsCommon, IsNarrowed, List, MAX_LENGTH}
 use Rattle.npm_words.proofs.Common.{MAX_SAFE_INTEGER, None, Numbers, Option, Some, Span, Unbounded, VersionValue, [], ap, ap₂, are_normal, arith}
 use Rattle.npm_words.proofs.Common.{at_least, at_most, below, both_ways, bytes_eq, bytes_eq-Decides, caret_from, cases_Bool, codes, common_steps}
-use Rattle.npm_words.proofs.Common.{compared, counted, counts, equal, false, filter-append, first, from, holds, if◌then◌else◌, inl}
-use Rattle.npm_words.proofs.Common.{inr, interval, is_empty, is_gt, is_interval, is_past, is_readable, is_valid, is_zero, length, lets_in, list_all}
-use Rattle.npm_words.proofs.Common.{lower_cut, map, nat_le, nat_tests, next_changed, not, precedence, precedence_total, refl, sym, true, under}
-use Rattle.npm_words.proofs.{Common.{upper_cut, version_text, whole, within, ℕ, ◌&&◌, ◌++◌, ◌||◌, ◌∙◌, ◌∷◌, ◌≡◌, ◌⊎◌}, Grammar.Printed.from_valid}
-use Rattle.npm_words.{proofs.Grammar.Printed.{prints_zero, under_valid}, specs.{Alternatives.{common, satisfying}, Internal.Alternatives.met}}
-use Rattle.npm_words.specs.{Internal.{Meaning.{common_in, is_part}, Parts.{AreZeros, has_no_comparators, is_padded, no_build, noted}}, Table.Partial}
-use Rattle.{npm_words.specs.Table.{Sign, caret, lowest, next, table, tilde, unbuilt, written_zeros}, semver_core.proofs.CutLaws.{between, cut_total}}
-use Rattle.semver_core.proofs.{CutLaws.{gt_lt, is_past-greater_lower, is_past-lesser_upper, lt_trans}, Gate.{both, lets_in-meet, lets_in_one}}
+use Rattle.npm_words.proofs.Common.{compared, counted, counts, equal, false, filter-append, first, from, holds, if◌then◌else◌, inl, inr, interval}
+use Rattle.npm_words.proofs.Common.{is_empty, is_gt, is_interval, is_past, is_readable, is_valid, is_zero, length, lets_in, list_all, lower_cut, map}
+use Rattle.npm_words.proofs.Common.{nat_le, nat_tests, next_changed, not, precedence, precedence_total, refl, sym, true, under, upper_cut}
+use Rattle.npm_words.proofs.{Common.{version_text, whole, within, ℕ, ◌&&◌, ◌++◌, ◌||◌, ◌∙◌, ◌∷◌, ◌≡◌, ◌⊎◌}, Grammar.Printed.{from_valid, prints_zero}}
+use Rattle.npm_words.{proofs.Grammar.Printed.under_valid, specs.{Alternatives.{common, satisfying}, Internal.{Alternatives.met, Meaning.common_in}}}
+use Rattle.npm_words.specs.{Internal.{Meaning.is_part, Parts.{AreZeros, has_no_comparators, is_padded, no_build, noted}}, Table.{Partial, Sign}}
+use Rattle.{npm_words.specs.Table.{caret, lowest, next, table, tilde, unbuilt, written_zeros}, semver_core.proofs.CutLaws.{between, cut_total, gt_lt}}
+use Rattle.semver_core.proofs.{CutLaws.{is_past-greater_lower, is_past-lesser_upper, lt_trans}, Gate.{both, lets_in-meet, lets_in_one}}
 use Rattle.{semver_core.specs.{Cuts.{Cut, cut_cmp}, Values.Versions.IsVersion}, std.proofs.{Math.Bool.or-true, lemmas.List.map-append}}
 use Rattle.std.specs.Cmp.{upto}
 use Rattle.semver_core.specs.Values.Spans as Spans
