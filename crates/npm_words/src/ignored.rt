@@ -54,6 +54,7 @@ fn takes_on(piece: &[u8], rest: &[u8]) -> bool
 }
 
 /// What stands behind the malformed word at the front.
+#[tactic(auto, using(crate::proofs::Grammar::Ignored::pieces_passed))]
 pub fn behind_ignored(text: &[u8]) -> &[u8]
     ensures { result.now ≡ behind_ignored (length text.now) text.now }
 {

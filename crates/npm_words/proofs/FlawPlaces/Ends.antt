@@ -1,17 +1,15 @@
 -- The malformed end of a hyphen range.
-use Rattle.npm_words.proofs.Common.{AreRead, Bool, Comparison, Ended, IsUtf8, List, MAX_SAFE_INTEGER, None, Option, Some, [], after_ends}
-use Rattle.npm_words.proofs.Common.{and_parts, ap, append_assoc, are_normal, arith, begins, bind_some, capped_in, cond_some, drop_at, drop_ends}
-use Rattle.npm_words.proofs.Common.{drop_spaces, encode_utf8_all, end_front, false, from_boundary, if◌then◌else◌, inr, is_empty, is_free}
-use Rattle.npm_words.proofs.Common.{is_free_lower, is_free_upper, is_mark, is_right, is_some, is_valid, last_end, length, length-append, list_all}
-use Rattle.npm_words.proofs.Common.{lower_of, nat_tests, refl, space_len, space_len-nil, subst, suc, sym, take_at, true, upper_of, zero, ℕ, ◌++◌, ◌+◌}
-use Rattle.npm_words.proofs.Common.{◌-◌, ◌>>?◌, ◌∙◌, ◌∷◌, ◌≡◌, ◌≤◌}
-use Rattle.npm_words.proofs.{FlawPlaces.Ranges.one_malformed_word, Grammar.Hyphens.{dash-is, dash-of, end-found, end-normal, end-read, ends-found, ends-read}}
-use Rattle.npm_words.proofs.Grammar.{Hyphens.{free-capped, front-is, normal-capped, right-end}, Printed.{capped-valid, lower-invalid, upper-invalid}}
-use Rattle.npm_words.{proofs.Common.empty_is, specs.Internal.{Ends.{behind_end, is_lower, is_right_one, is_upper}, Words.after_dash}}
-use Rattle.npm_words.specs.{Internal.Words.end_len, MalformedEnds.{HasEnds, IsEndPlace, IsLower, IsMalformedPart, IsRightEnd, IsUpper, IsWrongEnd}}
-use Rattle.npm_words.specs.{MalformedEnds.{SkipsMarks, a_word, an_end, lower, upper}, Table.Partial}
-use Rattle.semver_core.proofs.Reading.Boundaries.{blank-len, boundary-utf8, first-is, some_space-is}
-use Rattle.semver_core.specs.{Text.{Boundaries.IsFirstBoundary}}
+use Rattle.npm_words.proofs.Common.{AreRead, Bool, Comparison, Ended, IsUtf8, List, MAX_SAFE_INTEGER, None, Option, Some, [], after_ends, and_parts}
+use Rattle.npm_words.proofs.Common.{ap, append_assoc, are_normal, arith, begins, bind_some, capped_in, cond_some, drop_at, drop_ends, drop_spaces}
+use Rattle.npm_words.proofs.Common.{empty_is, encode_utf8_all, end_front, false, from_boundary, if◌then◌else◌, inr, is_empty, is_free, is_free_lower}
+use Rattle.npm_words.proofs.Common.{is_free_upper, is_mark, is_right, is_some, is_valid, last_end, length, length-append, list_all, lower_of}
+use Rattle.npm_words.proofs.Common.{nat_tests, refl, space_len, space_len-nil, subst, suc, sym, take_at, true, upper_of, zero, ℕ, ◌++◌, ◌+◌, ◌>>?◌}
+use Rattle.npm_words.proofs.{Common.{◌∙◌, ◌∷◌, ◌≡◌, ◌≤◌}, FlawPlaces.Ranges.one_malformed_word, Grammar.Hyphens.{dash-is, dash-of, end-found}}
+use Rattle.npm_words.proofs.Grammar.Hyphens.{end-normal, end-read, ends-found, ends-read, free-capped, front-is, normal-capped, right-end}
+use Rattle.npm_words.{proofs.Grammar.Printed.{capped-valid, lower-invalid, upper-invalid}, specs.Internal.Ends.{behind_end, is_lower, is_right_one}}
+use Rattle.npm_words.specs.{Internal.{Ends.is_upper, Words.{after_dash, end_len}}, MalformedEnds.{HasEnds, IsEndPlace, IsLower, IsMalformedPart}}
+use Rattle.npm_words.specs.{MalformedEnds.{IsRightEnd, IsWrongEnd, SkipsMarks, a_word, an_end, lower, upper}, Table.Partial}
+use Rattle.semver_core.{proofs.Reading.Boundaries.{blank-len, boundary-utf8, first-is, some_space-is}, specs.Text.Boundaries.IsFirstBoundary}
 use Rattle.{semver_core.specs.Values.Versions.VersionValue, semver_pieces.specs.declared.bounds.Bounds.Bounds}
 use Rattle.std.proofs.lemmas.Str.{IsCharBoundary-at_seam, IsUtf8-take}
 unfoldable use Rattle.npm_words.specs.Internal.Ends.{end_texts}
@@ -39,9 +37,7 @@ marks-of text rest u s =
 
 first-once : (text a b : List ℕ) → IsFirstBoundary text a → IsFirstBoundary text b → a ≡ b
 first-once text a b f g =
-    let one = f.3 g.0 b g.1 g.2 in
-    let two = g.3 f.0 a f.1 f.2 in
-    let same : length g.0 ≡ length f.0 = omega (arith, one, two) in
+    let same : length g.0 ≡ length f.0 = omega (arith, f.3 g.0 b g.1 g.2, g.3 f.0 a f.1 f.2) in
     cc (drop_at f.0 a (length f.0) refl, drop_at g.0 b (length f.0) same, f.1, g.1)
 
 place-is : (text : List ℕ) → IsUtf8 text → IsEndPlace text (behind_end text)
@@ -54,10 +50,6 @@ place-of text behind u p =
     let f = first-is m.0 (drop_ends text) (rw m.1 at u) in
     ap from_boundary same ∙ first-once p.0 _ behind (subst (λ (t : List ℕ). IsFirstBoundary t (from_boundary t)) same f) p.2
 
--- what is in front of what stands behind an end
-place-split : (text behind : List ℕ) → IsEndPlace text behind → (front : List ℕ) × (text ≡ front ++ behind)
-place-split text behind p = (p.1.0 ++ p.2.0, p.1.1 ∙ ap (λ (t : List ℕ). p.1.0 ++ t) p.2.1 ∙ sym (append_assoc p.1.0 p.2.0 behind))
-
 -- ---- the form of a hyphen range
 
 pub form-found : (text : List ℕ) (e : List ℕ × List ℕ) → IsUtf8 text → end_texts text ≡ Some e
@@ -67,15 +59,16 @@ form-found text e u h =
     let q = bind_some (after_dash (behind_end text)) _ e h in
     let c = cond_some (is_empty (behind_end q.0)) _ e q.2 in
     let p = place-is text u in
-    let split = place-split text (behind_end text) p in
-    let d = dash-is split.0 (behind_end text) q.0 (rw split.1 at u) q.1 in
+    let first = p.1.0 ++ p.2.0 in
+    let divided = p.1.1 ∙ ap (λ (t : List ℕ). p.1.0 ++ t) p.2.1 ∙ sym (append_assoc p.1.0 p.2.0 (behind_end text)) in
+    let d = dash-is first (behind_end text) q.0 (subst (λ (t : List ℕ). IsUtf8 t) divided u) q.1 in
     let whole = empty_is (behind_end q.0) c.0 in
-    let front = front-is text split.0 (behind_end text) split.1 in (
+    let front = front-is text first (behind_end text) divided in (
       record {
-        first = split.0;
+        first = first;
         before = behind_end text;
         second = q.0;
-        divided = split.1;
+        divided = divided;
         lower = p;
         dash = d.0;
         upper = rw whole at (place-is q.0 d.1);
@@ -179,9 +172,6 @@ module _ (include : Bool) (text : List ℕ) (u : IsUtf8 text) where
     lower-right : (k : HasEnds text) → is_lower include e.0 ≡ true → IsLower MAX_SAFE_INTEGER include k.first
     lower-right k good = right-found _ _ k.first (form-utf8 text u k).0 (grind (arith, form-read text u k))
 
-    upper-right : (k : HasEnds text) → is_upper include e.1 ≡ true → IsUpper MAX_SAFE_INTEGER include k.second
-    upper-right k good = right-found _ _ k.second (form-utf8 text u k).1 (grind (arith, form-read text u k))
-
     pub upper-wrong : (start : ℕ) → is_lower include e.0 ≡ true → is_upper include e.1 ≡ false → start + length e.1 ≡ length text → Wrong start (length text)
     upper-wrong start good bad size =
         let f = form-found text e u h in
@@ -189,7 +179,7 @@ module _ (include : Bool) (text : List ℕ) (u : IsUtf8 text) where
 
     pub both-right : is_lower include e.0 ≡ true → is_upper include e.1 ≡ true → (start end : ℕ) → Wrong start end → ⊥
     both-right low high start end (lower k bad s t) = bad (lower-right k low)
-    both-right low high start end (upper k is bad s t) = bad (upper-right k high)
+    both-right low high start end (upper k is bad s t) = bad (right-found _ _ k.second (form-utf8 text u k).1 (grind (arith, form-read text u k)))
 
   -- what stands behind the dash is within the text
   pub form-fits : (e : List ℕ × List ℕ) → end_texts text ≡ Some e → (length e.0 ≤ length text) × (length e.1 ≤ length text)
@@ -204,8 +194,7 @@ module _ (include : Bool) (text : List ℕ) (u : IsUtf8 text) where
   one_wrong_end a b c d (lower h bad s e) (lower k other t f) = let same = form-once text u h k in (cc, cc (e, f, ap length same.0))
   one_wrong_end a b c d (lower h bad s e) (upper k low other t f) = absurd (bad (rw (form-once text u h k).0 low))
   one_wrong_end a b c d (upper h low bad s e) (lower k other t f) = absurd (other (rw (form-once text u k h).0 low))
-  one_wrong_end a b c d (upper h low bad s e) (upper k lower' other t f) =
-      let same = form-once text u h k in (omega (arith, s, t, ap length same.1), cc (e, f))
+  one_wrong_end a b c d (upper h low bad s e) (upper k lower' other t f) = (omega (arith, s, t, ap length (form-once text u h k).1), cc (e, f))
 
   pub one_malformed_part : (a b c d : ℕ) → IsMalformedPart MAX_SAFE_INTEGER include text a b → IsMalformedPart MAX_SAFE_INTEGER include text c d
       → (a ≡ c) × (b ≡ d)

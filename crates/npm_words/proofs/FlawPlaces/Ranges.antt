@@ -2,10 +2,10 @@
 use Rattle.npm_words.proofs.Common.{AllByRecursion, AreAlternatives, Bool, Comparison, HasAlternativesIn, IsAlternative, IsCutAtBars, IsLeft}
 use Rattle.npm_words.proofs.Common.{IsMalformedWord, IsUtf8, List, MAX_SAFE_INTEGER, NoValue, None, Option, Signed, Some, [], and_parts, ap}
 use Rattle.npm_words.proofs.Common.{append-nil, arith, capped_partial, common_steps, cut_bars, drop, drop_spaces, false, here, is_empty, is_valid}
-use Rattle.npm_words.proofs.Common.{length, length-append, list_all, marks_len, nat_tests, none, refl, signed_word}
-use Rattle.npm_words.proofs.{Common.{sym, true, ℕ, ◌++◌, ◌+◌, ◌<◌, ◌∙◌, ◌∷◌, ◌≡◌, ◌≤◌}, Grammar.Printed.{capped-valid, table-invalid}}
-use Rattle.npm_words.{proofs.Grammar.{Printed.valid-same, Words.{WordAt, signed-found, strict-kept, word-read}}, specs.MalformedWords.IsRightWord}
-use Rattle.npm_words.specs.{MalformedWords.on, RangeFlaws.{IsAlternativeText, bytes_of}, RangeText.{hyphen, next, words}, Table.{Partial, table}}
+use Rattle.npm_words.proofs.Common.{length, length-append, list_all, marks_len, nat_tests, none, refl, signed_word, sym, true, ℕ, ◌++◌, ◌+◌, ◌<◌, ◌∙◌}
+use Rattle.npm_words.proofs.{Common.{◌∷◌, ◌≡◌, ◌≤◌}, Grammar.{Printed.{capped-valid, table-invalid, valid-same}, Words.{WordAt, signed-found}}}
+use Rattle.npm_words.{proofs.Grammar.Words.{strict-kept, word-read}, specs.{MalformedWords.{IsRightWord, on}, RangeFlaws.IsAlternativeText}}
+use Rattle.npm_words.specs.{RangeFlaws.bytes_of, RangeText.{hyphen, next, words}, Table.{Partial, table}}
 use Rattle.semver_core.proofs.Dividing.{BarLemmas.{cut_bars-front, parts_after}, BarsDivide.{bars_divide, pieces-utf8}}
 use Rattle.semver_core.{proofs.Reading.Boundaries.{boundary-of, first-of, skips-is, skips-of, skips-utf8, spaces-le}, specs.Internal.Parts.front_part}
 use Rattle.semver_core.specs.Text.Boundaries.{SkipsBlank}
@@ -18,9 +18,6 @@ middle P (q ∷ front) p behind h = middle P front p behind h.1
 pub bytes-append : (ps : List (List ℕ)) (p : List ℕ) → bytes_of (ps ++ p ∷ []) ≡ bytes_of ps + (length p + 2)
 bytes-append [] p = omega arith
 bytes-append (q ∷ ps) p = omega (arith, bytes-append ps p)
-
-some-pieces : (text : List ℕ) (pieces : List (List ℕ)) → IsCutAtBars text pieces → is_empty pieces ≡ false
-some-pieces text pieces h = grind arith
 
 module _ (include : Bool) where
   abbrev Right : List ℕ → List ℕ → Type 0
@@ -128,7 +125,7 @@ module _ (include : Bool) where
   passed_all text h =
       let a = all-right (h.front ++ []) (rw (append-nil h.front) h.right) in
       let cut = rw h.divided at (bars_divide text) in
-      (a.0, record { parts = h.front ++ []; divided = cut; each = a.1; some = a.3 ∙ some-pieces text (h.front ++ []) cut; valid = a.2 })
+      (a.0, record { parts = h.front ++ []; divided = cut; each = a.1; some = a.3 ∙ grind (arith, cut); valid = a.2 })
 
   -- ---- a text has one such flaw
 

@@ -5,11 +5,12 @@ use Rattle.npm_words.proofs.Common.{[], all_weaker, and_parts, ap, append_assoc,
 use Rattle.npm_words.proofs.Common.{common_steps, digit_value, digits_grow, digits_value, digits_value_after, drop, encode_ascii, encode_utf8_all}
 use Rattle.npm_words.proofs.Common.{encodes_same, eqb-true, false, has_leading_zero, if◌then◌else◌, inl, inr, is_ascii_digit, is_empty}
 use Rattle.npm_words.proofs.Common.{is_identifier_char, is_some, is_strict_identifier, is_strict_list, is_whitespace, is_whole, list_all, list_len}
-use Rattle.npm_words.proofs.Common.{listed, nat_le, nat_tests, next, not, onto_first, pieces, pre_front, pre_release_front, pre_release_with, refl}
-use Rattle.npm_words.proofs.Common.{run, runs_tail, same_Some, suc, sym, take, true, zero, ℕ, ◌&&◌, ◌*◌, ◌++◌, ◌+◌, ◌<◌, ◌==◌, ◌>>?◌, ◌||◌, ◌∙◌, ◌∷◌}
-use Rattle.npm_words.proofs.{Common.{◌≡◌, ◌≤◌, ◌⊎◌}, Grammar.VersionLaw.{build-ends, build-found, build-taken, dashed-found, pre-follows, pre-taken}}
-use Rattle.npm_words.specs.{Grammar.written, Internal.States.ended, declared.flaws.State.TheVariants.{End, Start}}
-use Rattle.semver_core.{proofs.{Reading.Bytes.{all-join, is_solid}, Text.Listed.plain_runs}, specs.Internal.CommonReading.is_plain}
+use Rattle.npm_words.proofs.Common.{listed, nat_le, nat_tests, next, not, onto_first, pieces, pre_front, pre_release_front, pre_release_with}
+use Rattle.npm_words.proofs.Common.{prefix_len, refl, run, runs_tail, same_Some, suc, sym, take, take-append-drop, take_while, true, zero, ℕ, ◌&&◌}
+use Rattle.npm_words.proofs.{Common.{◌*◌, ◌++◌, ◌+◌, ◌<◌, ◌==◌, ◌>>?◌, ◌||◌, ◌∙◌, ◌∷◌, ◌≡◌, ◌≤◌, ◌⊎◌}, Grammar.VersionLaw.{build-ends, build-found}}
+use Rattle.npm_words.{proofs.Grammar.VersionLaw.{build-taken, dashed-found, pre-follows, pre-taken}, specs.{Grammar.written, Internal.States.ended}}
+use Rattle.{npm_words.specs.declared.flaws.State.TheVariants.{End, Start}, semver_core.proofs.Reading.Bytes.{all-join, is_solid}}
+use Rattle.semver_core.{proofs.Text.{Listed.plain_runs, Runs.{prefix_each, prefix_ends}}, specs.Internal.CommonReading.is_plain}
 use Rattle.std.{proofs.lemmas.List.reverse-append, specs.Prelude.reverse}
 
 -- ---- the characters of a version are bytes
@@ -68,11 +69,7 @@ is_number limit ds = not (is_empty ds) && (not (has_leading_zero ds) && nat_le (
 
 -- the longest front of which a test is true
 divides : (p : ℕ → Bool) (cs : List ℕ) → (x : List ℕ) × (r : List ℕ) × (cs ≡ x ++ r) × (list_all p x ≡ true) × (begins p r ≡ false)
-divides p [] = ([], [], refl, refl, refl)
-divides p (c ∷ cs) = elim (cases_Bool (p c)) [
-  | inl passes ↦ (let d = divides p cs in (c ∷ d.0, d.1, grind arith, grind arith, d.4))
-  | inr other ↦ ([], c ∷ cs, refl, refl, other)
-]
+divides p cs = (take_while p cs, drop (prefix_len p cs) cs, sym (take-append-drop (prefix_len p cs) cs), prefix_each p cs, prefix_ends p cs)
 
 module _ (limit : ℕ) where
   -- the text is read to its end, and is a version
@@ -210,10 +207,8 @@ module _ (limit : ℕ) where
       grind (arith, pre-follows false is_strict_list pre (build ++ r) w.pre_release p ends) in
       let front = pre-taken false false is_strict_list pre (build ++ r) w.pre_release refl p ends in
       let c : Whole (Number 0 0) (pre ++ (build ++ r)) = qualified (pre ++ (build ++ r)) ∙ rw (front.1, front.3, (build-taken build r w.build q e).0) after in
-      let b : Whole (Digit 0) (z ++ (pre ++ (build ++ r))) = number-read less 0 _ z _ nine le k quiet ∙ c in
-      let a : Whole (Digit 1) (y ++ 46 ∷ (z ++ (pre ++ (build ++ r)))) = number-read less 1 _ y (46 ∷ _) nine le j refl ∙ b in
-      let all : Whole (Digit 2) (x ++ 46 ∷ (y ++ 46 ∷ (z ++ (pre ++ (build ++ r))))) = number-read less 2 _ x (46 ∷ _) nine le i refl ∙ a in
-      simp append_assoc (start-read less _ mark x _ m i ∙ all)
+      simp append_assoc (start-read less _ mark x _ m i ∙ number-read less 2 _ x (46 ∷ _) nine le i refl ∙ number-read less 1 _ y (46 ∷ _) nine le j refl
+      ∙ number-read less 0 _ z _ nine le k quiet ∙ c)
 
   pub spelled-read : (less : ℕ) (cs : List ℕ) → 9 ≤ limit → less ≤ limit → IsSpelled less (encode_utf8_all cs) → Whole Start cs
   spelled-read less cs nine le h =

@@ -6,15 +6,11 @@ use Rattle.npm_words.proofs.Common.{inl, inr, is_empty, is_free_lower, is_free_u
 use Rattle.npm_words.proofs.Common.{list_all, map, marks_len, middle_is_trim, nat_tests, prefix_len, refl, same_Some, signed_word, suc, sym, take}
 use Rattle.npm_words.proofs.Common.{take_rest, trim, trim_is_middle, true, words_of_all, words_within, ℕ, ◌&&◌, ◌+◌, ◌-◌, ◌↔◌, ◌∙◌, ◌∷◌, ◌≡◌, ◌≤◌}
 use Rattle.npm_words.proofs.Grammar.Hyphens.{ended_of, ends_of, front-normal, hyphen-found, hyphen-read, normal-capped, partial-le, right-end}
-use Rattle.npm_words.{proofs.Grammar.{PartialLaw.{prefix-all}, Words.{words-found, words-read}}, specs.Internal.Words.hyphen_or}
-use Rattle.npm_words.specs.{Internal.Words.{npm_alternatives, places_front}, RangeText.{hyphen, next, words}, Table.Partial}
-use Rattle.semver_core.proofs.{Dividing.BarsDivide.{bars_divide, bars_once, pieces-utf8}, Reading.Boundaries.{tail-utf8, trim-utf8}}
-use Rattle.semver_core.proofs.Reading.Steps.{option-cases}
+use Rattle.npm_words.{proofs.Grammar.Words.{words-found, words-read}, specs.Internal.Words.{hyphen_or, npm_alternatives, places_front}}
+use Rattle.{npm_words.specs.{RangeText.{hyphen, next, words}, Table.Partial}, semver_core.proofs.Dividing.BarsDivide.{bars_divide, bars_once}}
+use Rattle.semver_core.proofs.{Dividing.BarsDivide.pieces-utf8, Reading.{Boundaries.{tail-utf8, trim-utf8}, Steps.option-cases}}
 
 -- ---- marks
-
-pub marks_all : (text : List ℕ) (at : ℕ) → at ≡ marks_len text → list_all is_mark (take at text) ≡ true
-marks_all text at e = rw e (prefix-all is_mark text)
 
 -- what stands behind marks is a text
 pub marks-utf8 : (text : List ℕ) → IsUtf8 text → IsUtf8 (drop (marks_len text) text)
@@ -29,8 +25,6 @@ marks-utf8 (c ∷ rest) u = elim (cases_Bool (is_mark c)) [
 pub behind-le : (loose : Bool) (text : List ℕ) (at : ℕ) (p : Partial) (rest : List ℕ)
     → Some (p, rest) ≡ first_as capped_partial (places_front loose (take (length text - at) (drop at text))) → length rest ≤ length text
 behind-le loose text at p rest h = grind (arith, nat_tests, common_steps, partial-le, take_rest, length-drop)
-
-pub ruleset marks_found = (marks_all)
 
 -- ---- the identifiers of the partials that are read are in normal form
 

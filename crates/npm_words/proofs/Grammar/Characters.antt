@@ -1,12 +1,10 @@
 -- The characters of words, of their partials and signs, and of the whitespace between them.
 use Rattle.npm_words.proofs.Common.{Bool, Id, IsBlank, IsIdentifiers, IsPlace, IsPlaces, IsSignText, IsStrictBuild, List, Option, [], all_weaker}
-use Rattle.npm_words.proofs.Common.{and_parts, arith, caret_equal, common_steps, compared, encode_ascii, encode_utf8, encode_utf8_all}
-use Rattle.npm_words.proofs.Common.{ends, get_or, is_ascii_digit, is_empty, is_identifier_char, is_whitespace, late_above, late_below, le-ltb, length}
-use Rattle.npm_words.proofs.Common.{list_all, lt-ltb, nat_le, nat_tests, no_sign, not, pieces, refl, runs_tail, sign, spelling, tilde_twice, true, ℕ}
-use Rattle.npm_words.{proofs.Common.{◌&&◌, ◌++◌, ◌-◌, ◌<◌, ◌==◌, ◌||◌, ◌∷◌, ◌≡◌, ◌≤◌}, specs.{Grammar.IsPreRelease, RangeText.tilde_sign}}
-use Rattle.{npm_words.specs.Table.{Partial, Sign}, semver_core.proofs.{Reading.Bytes.all-join, Text.Listed.plain_runs}}
-use Rattle.{semver_core.specs.Internal.CommonReading.is_plain, std.specs.Char.is_ascii_graphic}
-use Rattle.npm_words.specs.Partials as Text
+use Rattle.npm_words.proofs.Common.{arith, caret_equal, common_steps, compared, ends, get_or, is_ascii_digit, is_empty, is_identifier_char}
+use Rattle.npm_words.proofs.Common.{is_whitespace, late_above, late_below, length, list_all, nat_le, nat_tests, no_sign, not, pieces, refl, runs_tail}
+use Rattle.npm_words.proofs.{Common.{sign, spelling, tilde_twice, true, ℕ, ◌&&◌, ◌++◌, ◌-◌, ◌<◌, ◌==◌, ◌||◌, ◌∷◌, ◌≡◌}, Grammar.Runs.encoded-all}
+use Rattle.{npm_words.specs.{Grammar.IsPreRelease, RangeText.tilde_sign, Table.{Partial, Sign}}, semver_core.proofs.Reading.Bytes.all-join}
+use Rattle.{semver_core.{proofs.Text.Listed.plain_runs, specs.Internal.CommonReading.is_plain}, std.specs.Char.is_ascii_graphic}
 
 -- `<`, `=`, `>`, `^` or `~`
 abbrev pub is_sign : ℕ → Bool
@@ -18,8 +16,7 @@ abbrev pub is_part : ℕ → Bool
 is_part b = is_identifier_char b || (b == 46 || (b == 43 || b == 42))
 
 place-part : (loose : Bool) (x : List ℕ) (a : Option ℕ) → IsPlace loose x a → list_all is_part x ≡ true
-place-part loose x a (Text.any b h) = grind (arith, nat_tests)
-place-part loose x a (Text.number digits n k spelled short) = all_weaker is_ascii_digit is_part (λ b k. grind (arith, nat_tests)) digits k.each
+place-part loose x a h = let digits = all_weaker is_ascii_digit is_part (λ b k. grind (arith, nat_tests)) in grind (arith, nat_tests)
 
 pieces-part : (t : List ℕ) (l : List Id) → IsIdentifiers t l → list_all is_part t ≡ true
 pieces-part t l h = all_weaker is_plain is_part (λ b k. grind (arith, nat_tests)) t (plain_runs t (runs_tail (pieces t) h.runs))
@@ -39,19 +36,9 @@ partial-part loose x p h = grind (arith, nat_tests, common_steps, all-join, buil
 abbrev pub is_signal : ℕ → Bool
 is_signal b = is_sign b || not (is_ascii_graphic b)
 
-high-signal : (n : ℕ) → 128 ≤ n → is_signal n ≡ true
-high-signal n h = grind (arith, nat_tests)
-
-bytes-signal : (c : ℕ) → is_whitespace c ≡ true → list_all is_signal (encode_utf8 c) ≡ true
-unfolding encode_utf8
-bytes-signal c h = grind (arith, nat_tests, common_steps, encode_ascii, le-ltb, lt-ltb, high-signal)
-
-all-signal : (cs : List ℕ) → list_all is_whitespace cs ≡ true → list_all is_signal (encode_utf8_all cs) ≡ true
-all-signal [] each = refl
-all-signal (c ∷ cs) each = grind (arith, nat_tests, common_steps, and_parts, all-join, bytes-signal c, all-signal cs)
-
-pub blank-signal : (x : List ℕ) → IsBlank x → list_all is_signal x ≡ true
-blank-signal x h = rw h.spelled (all-signal h.characters h.each)
+blank-signal : (x : List ℕ) → IsBlank x → list_all is_signal x ≡ true
+blank-signal x h =
+    rw h.spelled (encoded-all is_whitespace is_signal (λ n k. grind (arith, nat_tests)) (λ c k w. grind (arith, nat_tests)) h.characters h.each)
 
 spelling-signal : (s : Sign) (y : List ℕ) → list_all is_signal y ≡ true → list_all is_signal (spelling s ++ y) ≡ true
 spelling-signal s y h = grind (arith, nat_tests, common_steps)

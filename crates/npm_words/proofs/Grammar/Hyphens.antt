@@ -5,14 +5,14 @@ use Rattle.npm_words.proofs.Common.{MAX_SAFE_INTEGER, Option, Some, VersionValue
 use Rattle.npm_words.proofs.Common.{ap₂, are_marks, are_normal, are_whole_marks, arith, begins, bind_some, capped_in, capped_partial, cases_Bool}
 use Rattle.npm_words.proofs.Common.{common_steps, compared, cond_some, drop, drop_at, drop_ends, drop_spaces, empty_is, encode_utf8, encode_utf8_all}
 use Rattle.npm_words.proofs.Common.{end_front, ended_as, false, first_as, get_or, hyphen_ends, hyphen_of, if◌then◌else◌, inl, inr, is_empty, is_free}
-use Rattle.npm_words.proofs.Common.{is_free_lower, is_free_upper, is_mark, is_right, is_right_end, is_short, is_short_word, is_valid, is_whitespace}
-use Rattle.npm_words.proofs.Common.{last_end, last_marks, le-ltb, len_utf8, len_utf8_bounds, length, length-append, length-drop, length-encode}
-use Rattle.npm_words.proofs.Common.{list_all, list_all-append, lower_of, lt-ltb, nat_tests, not, prefix_len, refl, same_Some, space_len}
-use Rattle.npm_words.proofs.Common.{space_len-nil, subst, suc, sym, take, true, upper_of, zero, ℕ, ◌&&◌, ◌++◌, ◌+◌, ◌-◌, ◌<◌, ◌==◌, ◌>>?◌, ◌||◌, ◌∙◌}
-use Rattle.npm_words.proofs.{Common.{◌∷◌, ◌≡◌, ◌≤◌}, Grammar.{Characters.{is_signal, sign-signal}, PartialLaw.{boundary-quiet, front-text}}}
-use Rattle.npm_words.proofs.Grammar.{PartialLaw.{places-found, places-read}, Printed.{capped-valid, lower-invalid, upper-invalid, valid-same}}
-use Rattle.npm_words.{proofs.Grammar.{Runs.run-exact, Signs.marks-all, Words.{marks-dropped, places-begin}}, specs.Grammar.IsPreRelease}
-use Rattle.npm_words.specs.{MalformedEnds.SkipsDash, Internal.{Reads.valid_one, Words.{after_dash, end_len, places_front}}, RangeText.{formed, ignored, more}, Table.Partial}
+use Rattle.npm_words.proofs.Common.{is_free_lower, is_free_upper, is_mark, is_right, is_right_end, is_valid, is_whitespace, last_end, last_marks}
+use Rattle.npm_words.proofs.Common.{le-ltb, len_utf8, len_utf8_bounds, length, length-append, length-drop, length-encode, list_all, list_all-append}
+use Rattle.npm_words.proofs.Common.{lower_of, lt-ltb, nat_tests, not, prefix_len, refl, same_Some, space_len, space_len-nil, subst, suc, sym, take}
+use Rattle.npm_words.proofs.Common.{true, upper_of, zero, ℕ, ◌&&◌, ◌++◌, ◌+◌, ◌-◌, ◌<◌, ◌==◌, ◌>>?◌, ◌||◌, ◌∙◌, ◌∷◌, ◌≡◌, ◌≤◌}
+use Rattle.npm_words.proofs.Grammar.{Characters.{is_signal, sign-signal}, PartialLaw.{boundary-quiet, front-text, places-found, places-read}}
+use Rattle.npm_words.proofs.Grammar.{Printed.{capped-valid, lower-invalid, upper-invalid, valid-same}, Runs.{encoded-all, run-exact}, Signs.marks-all}
+use Rattle.npm_words.{proofs.Grammar.Words.{marks-dropped, places-begin}, specs.{Grammar.IsPreRelease, Internal.{Reads.valid_one, Words.after_dash}}}
+use Rattle.npm_words.specs.{Internal.Words.{end_len, places_front}, MalformedEnds.SkipsDash, RangeText.{formed, ignored, more}, Table.Partial}
 use Rattle.{npm_words.specs.Table.whole, semver_core.proofs.{Normal.identifiers-normal, Reading.Boundaries.{blank-len, boundary-of, boundary-utf8}}}
 use Rattle.semver_core.proofs.Reading.{Boundaries.{byte-is, front-dark, skips-of, skips-utf8, some_space-is, tail-utf8}, Bytes.all-join}
 use Rattle.semver_core.proofs.{Reading.Bytes.{begins_component, is_component_byte, is_solid}, Text.SpaceLaw.front_is_first_character}
@@ -56,9 +56,6 @@ ends-char c rest h =
     sym (ends_step (encode_utf8 c ++ rest) (len_utf8 c) (sym (char-len c rest ∙ rw h refl)) (omega (arith, (len_utf8_bounds c).0)))
     ∙ ap drop_ends (drop_at (encode_utf8 c) rest (len_utf8 c) (length-encode c))
 
-ends-dark : (c : ℕ) (rest : List ℕ) → is_end c ≡ false → drop_ends (encode_utf8 c ++ rest) ≡ encode_utf8 c ++ rest
-ends-dark c rest h = ends_stop (encode_utf8 c ++ rest) (char-len c rest ∙ rw h refl)
-
 -- what is passed
 pub record EndsAt (text : List ℕ) : Type 0 where
   pub characters : List ℕ
@@ -69,7 +66,7 @@ ends-of : (cs : List ℕ) → EndsAt (encode_utf8_all cs)
 unfolding after_ends
 ends-of [] = record { characters = []; each = refl; split = refl }
 ends-of (c ∷ cs) = elim (cases_Bool (is_end c)) [
-  | inr other ↦ record { characters = []; each = refl; split = sym (ends-dark c (encode_utf8_all cs) other) }
+  | inr other ↦ record { characters = []; each = refl; split = sym (ends_stop _ (char-len c (encode_utf8_all cs) ∙ rw other refl)) }
   | inl passed ↦
       let r = ends-of cs in
       record { characters = c ∷ r.characters; each = rw passed r.each; split = grind (arith, nat_tests, common_steps, ends-char) }
@@ -178,9 +175,6 @@ last-marks marks = list_all-from_AllPass is_mark (last_marks marks) (λ k d l.
     ap is_mark (get_or-drop start marks k d ∙ ap (λ (i : ℕ). get_or marks i d) (sym at) ∙ sym (get_or-reverse marks back d (omega arith)))
     ∙ prefix_len_passes is_mark (reverse marks) back d (omega (arith, suffix_len-le-length is_mark marks)))
 
-short-places : (loose : Bool) (marks x : List ℕ) (p : Partial) → IsPlaces loose x p → is_short_word loose (last_marks marks ++ x) ≡ is_short loose x
-short-places loose marks x p h = ap (is_short loose) (marks-dropped loose (last_marks marks) x p (last-marks marks) h)
-
 -- ---- which ends are right
 
 pub free-marks : (changes : VersionValue → Bool) (p : Partial) (marks : List ℕ) → (is_free changes p || are_whole_marks marks)
@@ -190,7 +184,8 @@ free-marks changes p marks = grind arith
 -- the ends that are right are those of the statement
 pub right-end : (loose : Bool) (changes : VersionValue → Bool) (text rest : List ℕ) (h : IsEnd loose text rest)
     → is_right loose (is_free changes) (ended_of loose text rest h) ≡ is_right_end loose changes h.partial h.marks h.places
-right-end loose changes text rest h = rw (short-places loose h.marks h.places h.partial h.is, free-marks changes h.partial h.marks) refl
+right-end loose changes text rest h =
+    rw (marks-dropped loose (last_marks h.marks) h.places h.partial (last-marks h.marks) h.is, free-marks changes h.partial h.marks) refl
 
 -- ---- the ends as the code has them
 
@@ -264,14 +259,6 @@ partial-le loose text p rest h = grind (arith, nat_tests, common_steps, front-le
 abbrev is_front : ℕ → Bool
 is_front b = not (is_component_byte b) && not (b == 45)
 
-high-front : (n : ℕ) → 128 ≤ n → is_front n ≡ true
-high-front n h = grind (arith, nat_tests)
-
-marks-front : (cs : List ℕ) → list_all is_end cs ≡ true → list_all is_front (encode_utf8_all cs) ≡ true
-unfolding encode_utf8
-marks-front [] h = refl
-marks-front (c ∷ cs) h = grind (arith, nat_tests, common_steps, and_parts, all-join, le-ltb, lt-ltb, high-front, marks-front cs)
-
 -- the partial there, and what stands behind it
 abbrev pub WordFront : List ℕ → List ℕ → Type 0
 WordFront text behind = (x : List ℕ) × (p : Partial) × IsPlaces false x p × (drop (prefix_len is_front text) text ≡ x ++ behind)
@@ -282,7 +269,9 @@ front-of text front x behind p e h k =
     let first = places-begin false x behind p k in (x, p, k, rw e (run-exact is_front front _ h (grind arith)))
 
 end-at : (text before : List ℕ) → IsEnd false text before → WordFront text before
-end-at text before h = front-of text h.marks h.places before h.partial h.divided (rw h.are.1 (marks-front h.are.0 h.are.2)) h.is
+end-at text before h =
+    let front = encoded-all is_end is_front (λ n k. grind (arith, nat_tests)) (λ c k e. grind (arith, nat_tests)) h.are.0 h.are.2 in
+    front-of text h.marks h.places before h.partial h.divided (rw h.are.1 front) h.is
 
 pub word-front : (include : Bool) (w x text behind : List ℕ) (cs : List Comparison) → text ≡ w ++ behind → IsWord false include w x cs → WordFront text behind
 word-front include w x text behind cs e (IsWord.word signs marks y s p h m n k) =

@@ -1,23 +1,20 @@
 -- The partials inside a malformed word, in front of a `=`: the functions find them exactly where the statement has them.
-use Rattle.npm_words.proofs.Common.{Bool, List, None, Option, Some, [], and_parts, ap, arith, begins, bytes_eq-Decides, cases_Bool, codes}
-use Rattle.npm_words.proofs.Common.{common_steps, drop, drop_at, empty_is, false, if◌then◌else◌, inl, inr, is_ascii_digit, is_empty, length}
-use Rattle.npm_words.proofs.Common.{length-append, length-drop, nat_tests, not, prefix_len, refl, subst, suc, sym, take, take-append-drop, take_at}
-use Rattle.npm_words.proofs.Common.{take_rest, takes, true, zero, ℕ, ◌&&◌, ◌++◌, ◌-◌, ◌<◌, ◌==◌, ◌||◌, ◌∙◌, ◌∷◌, ◌≡◌, ◌≤◌}
-use Rattle.npm_words.proofs.Grammar.{Characters.empty-length, InsideParts.{inside-starts, partial-found, partial-less, partial-max, starts_place}}
-use Rattle.npm_words.{proofs.Grammar.{PartialLaw.prefix-all, Runs.{run-ends, run-exact, steps-go, steps-stop}}, specs.Internal.Inside.are_inside}
-use Rattle.npm_words.specs.{Internal.{Inside.{behind_partial, from_place, is_apart}, Words.takes_on}, Malformed.{AreInside, IsInside, IsTaken}}
-use Rattle.{npm_words.specs.Malformed.{begins_place, more, none}, std.{proofs.Math.Bool.or-true, specs.List.{ends_with, position}}}
+use Rattle.npm_words.proofs.Common.{Bool, List, None, Option, Some, [], and_parts, ap, arith, bytes_eq-Decides, cases_Bool, codes, common_steps, drop}
+use Rattle.npm_words.proofs.Common.{drop_at, empty_is, false, if◌then◌else◌, inl, inr, is_ascii_digit, is_empty, length, length-append, length-drop}
+use Rattle.npm_words.proofs.Common.{nat_tests, not, prefix_len, refl, subst, suc, sym, take, take-append-drop, take_at, take_rest, takes, true, zero}
+use Rattle.npm_words.proofs.{Common.{ℕ, ◌&&◌, ◌++◌, ◌-◌, ◌<◌, ◌==◌, ◌||◌, ◌∙◌, ◌∷◌, ◌≡◌, ◌≤◌}, Grammar.Characters.empty-length}
+use Rattle.npm_words.proofs.Grammar.{InsideParts.{inside-starts, partial-found, partial-less, partial-max, starts_place}, Runs.{run-exact, steps-go}}
+use Rattle.npm_words.{proofs.Grammar.Runs.steps-stop, specs.Internal.{Inside.{are_inside, behind_partial, from_place, is_apart}, Words.takes_on}}
+use Rattle.{npm_words.specs.Malformed.{AreInside, IsInside, IsTaken, begins_place, more, none}, semver_core.proofs.Text.Runs.prefix_each}
+use Rattle.{semver_core.proofs.Text.Runs.prefix_ends, std.{proofs.Math.Bool.or-true, specs.List.{ends_with, position}}}
 
 -- ---- the first place
-
-starts-apart : (text : List ℕ) → starts_place text ≡ true → begins is_apart text ≡ false
-starts-apart text h = grind (arith, nat_tests, common_steps)
 
 abbrev is_placed : List ℕ → Bool
 is_placed text = not (is_empty (from_place text))
 
 starts : (text : List ℕ) → is_placed text ≡ true → starts_place (from_place text) ≡ true
-starts text h = grind (arith, nat_tests, common_steps, run-ends is_apart text)
+starts text h = grind (arith, nat_tests, common_steps, prefix_ends is_apart text)
 
 -- what is left is shorter
 less : (text : List ℕ) → is_placed text ≡ true → length (behind_partial (from_place text)) < length text
@@ -82,7 +79,7 @@ inside-found (suc n) text k h = elim (cases_Bool (is_placed text)) [
       let each = inside-found n rest (omega (arith, k, less text on)) (rw on at (sym (step n text) ∙ h)) in
       let split : text ≡ take (prefix_len is_apart text) text ++ (f.piece ++ rest) =
       sym (take-append-drop (prefix_len is_apart text) text) ∙ ap (λ (t : List ℕ). take (prefix_len is_apart text) text ++ t) f.split in
-      subst AreInside (sym split) (more (take (prefix_len is_apart text) text) f.piece rest (prefix-all is_apart text) f.is
+      subst AreInside (sym split) (more (take (prefix_len is_apart text) text) f.piece rest (prefix_each is_apart text) f.is
       (λ y z e i. omega (arith, partial-max y z i, ap (λ t. length (behind_partial t)) (f.split ∙ e), ap length e, length-append y z, length-append f.piece rest)) each)
 ]
 
@@ -99,7 +96,7 @@ pub inside-read : (text : List ℕ) → AreInside text → are_inside (length te
 inside-read text none = nil-inside
 inside-read text (more front x rest h i longest k) =
     let starts = inside-starts x rest i in
-    let first : from_place (front ++ (x ++ rest)) ≡ x ++ rest = run-exact is_apart front (x ++ rest) h (starts-apart (x ++ rest) starts) in
+    let first : from_place (front ++ (x ++ rest)) ≡ x ++ rest = run-exact is_apart front (x ++ rest) h (grind (arith, nat_tests, common_steps)) in
     let on : is_placed (front ++ (x ++ rest)) ≡ true = rw first (grind arith) in
     go (front ++ (x ++ rest)) on ∙ rw (first, longest-read x rest i longest) (inside-read rest k)
 
@@ -134,7 +131,7 @@ taken-read piece rest (inr (front, split, is, place)) =
     let e = equal-read front in rw (split, e.0, e.1, inside-read front is, place) (or-true _)
 
 pub taken-not : (piece rest : List ℕ) → (IsTaken piece rest → ⊥) → takes_on piece rest ≡ false
-taken-not piece rest h = elim (cases_Bool (takes_on piece rest)) [ inl on ↦ absurd (h (taken-found piece rest on)) | inr off ↦ off ]
+taken-not piece rest h = grind (arith, taken-found piece rest)
 
 pub not-taken : (piece rest : List ℕ) → takes_on piece rest ≡ false → IsTaken piece rest → ⊥
 not-taken piece rest off t = cc (taken-read piece rest t, off)

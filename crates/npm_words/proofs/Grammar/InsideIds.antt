@@ -3,10 +3,11 @@ use Rattle.npm_words.proofs.Common.{Bool, List, [], all_weaker, and_parts, ap, a
 use Rattle.npm_words.proofs.Common.{cases_Bool, common_steps, drop, empty_is, false, has_leading_zero, if◌then◌else◌, inl, inr, is_ascii_digit}
 use Rattle.npm_words.proofs.Common.{is_empty, join_with_byte, length, length-append, length-drop, list_all, nat_tests, not, pieces, prefix_len, refl}
 use Rattle.npm_words.proofs.Common.{suc, sym, take, take-append-drop, take_rest, true, zero, ℕ, ◌&&◌, ◌++◌, ◌+◌, ◌<◌, ◌==◌, ◌||◌, ◌∙◌, ◌∷◌, ◌≡◌, ◌≤◌}
-use Rattle.npm_words.proofs.Grammar.{PartialLaw.prefix-all, Runs.{run-exact, run-many, steps-go, steps-stop}}
-use Rattle.{npm_words.specs.Internal.Inside.{begins_dotted_id, behind_id, behind_ids}, semver_core.proofs.Reading.Bytes.begins-some}
-use Rattle.semver_core.{proofs.{Reading.Qualifiers.byte-begins, Text.Runs.not_dot}, specs.Text.{Characters.is_identifier_char, Identifiers.goes_on}}
-use Rattle.{semver_core.specs.Text.Identifiers.is_identifier, std.proofs.lemmas.List.Splits.{join_with_byte-slice_split, length-slice_split}}
+use Rattle.npm_words.proofs.Grammar.{Runs.{run-exact, run-many, steps-go, steps-stop, while-on}, VersionLaw.At}
+use Rattle.{npm_words.specs.Internal.Inside.{begins_dotted_id, behind_id, behind_ids}, semver_core.proofs.Printing.Returns.pieces_joined}
+use Rattle.semver_core.proofs.{Reading.{Bytes.begins-some, Qualifiers.byte-begins}, Text.Runs.{not_dot, prefix_each}}
+use Rattle.semver_core.specs.Text.{Characters.is_identifier_char, Identifiers.{goes_on, is_identifier}}
+use Rattle.std.proofs.lemmas.List.Splits.{join_with_byte-slice_split, length-slice_split}
 
 pub drop-le : (n : ℕ) (x rest : List ℕ) → length x ≤ n → length (drop n (x ++ rest)) ≤ length rest
 drop-le n x rest h = omega (arith, h, length-drop n (x ++ rest), length-append x rest)
@@ -36,12 +37,12 @@ behind-is : (strict : Bool) (c : ℕ) (text : List ℕ)
 unfolding behind_id
 behind-is strict c text = grind (arith, nat_tests)
 
--- what is left behind something: no more than stood behind it, and exactly that where no identifier goes on
-record Behind (left rest : List ℕ) : Type 0 where
-  le : length left ≤ length rest
-  exact : begins is_identifier_char rest ≡ false → left ≡ rest
+-- what is left behind something: no more than stood behind it, and exactly that where nothing goes on there
+pub record Behind (goes : List ℕ → Bool) (rest left : List ℕ) : Type 0 where
+  pub le : length left ≤ length rest
+  pub exact : goes rest ≡ false → left ≡ rest
 
-good-behind : (strict : Bool) (id rest : List ℕ) → is_good strict id ≡ true → Behind (behind_id strict (id ++ rest)) rest
+good-behind : (strict : Bool) (id rest : List ℕ) → is_good strict id ≡ true → Behind (begins is_identifier_char) rest (behind_id strict (id ++ rest))
 good-behind strict [] rest h = cc h
 good-behind strict (c ∷ id) rest h =
     let p = and_parts (list_all (class c) (c ∷ id)) (not (strict && (c == 48)) || is_empty id) (sym (good-is strict c id) ∙ h) in
@@ -68,7 +69,7 @@ ids-le zero strict text = omega arith
 ids-le (suc n) strict text = grind (arith, id-le strict text, length-drop, ids-le n strict (drop 1 (behind_id strict text)))
 
 -- what stands behind a dot is shorter
-dot-less : (strict : Bool) (text : List ℕ) → begins_dotted_id (behind_id strict text) ≡ true → length (drop 1 (behind_id strict text)) < length text
+pub dot-less : (strict : Bool) (text : List ℕ) → begins_dotted_id (behind_id strict text) ≡ true → length (drop 1 (behind_id strict text)) < length text
 dot-less strict text h = grind (arith, id-le strict text)
 
 -- ---- the loop
@@ -82,18 +83,14 @@ ids-step : (strict : Bool) (n : ℕ) (text : List ℕ) → behind_ids (suc n) st
 unfolding behind_ids
 ids-step strict n text = refl
 
-module _ (strict : Bool) (text rest : List ℕ) (e : rest ≡ behind_id strict text) where
-  pub ids-stop : begins_dotted_id rest ≡ false → rest ≡ behind_ids (length text) strict text
-  ids-stop h = e ∙ sym (steps-stop (λ n. behind_ids n strict) _ _ _ (ids-none strict) (ids-step strict) (dot-less strict) text (rw e at h))
+pub ids-stop : (strict : Bool) (text : List ℕ) → begins_dotted_id (behind_id strict text) ≡ false → behind_ids (length text) strict text ≡ behind_id strict text
+ids-stop strict = steps-stop (λ n. behind_ids n strict) _ _ _ (ids-none strict) (ids-step strict) (dot-less strict)
 
-  pub ids-less : (next : List ℕ) → next ≡ drop 1 rest → begins_dotted_id rest ≡ true → length next < length text
-  ids-less next g h = rw (g, e) (dot-less strict text (rw e at h))
+pub ids-go : (strict : Bool) (text : List ℕ) → begins_dotted_id (behind_id strict text) ≡ true
+    → behind_ids (length text) strict text ≡ (let next = drop 1 (behind_id strict text) in behind_ids (length next) strict next)
+ids-go strict = steps-go (λ n. behind_ids n strict) _ _ _ (ids-none strict) (ids-step strict) (dot-less strict)
 
-  pub ids-go : (next : List ℕ) → next ≡ drop 1 rest → begins_dotted_id rest ≡ true
-      → behind_ids (length text) strict text ≡ behind_ids (length next) strict next
-  ids-go next g h = rw (g, e) (steps-go (λ n. behind_ids n strict) _ _ _ (ids-none strict) (ids-step strict) (dot-less strict) text (rw e at h))
-
-pub ruleset ids_steps = (ids-stop, ids-less, take_rest, nat_tests)
+pub ruleset ids_steps = (ids-stop, ids-go, dot-less, take_rest, nat_tests)
 
 -- ---- what is read is a list, and it is the longest
 
@@ -106,62 +103,40 @@ pieces-next : (id rest : List ℕ) → list_all is_identifier_char id ≡ true �
 pieces-next [] rest h = refl
 pieces-next (c ∷ id) rest h = grind (arith, common_steps, not_dot c, pieces-next id rest)
 
-pieces-last : (id : List ℕ) → list_all is_identifier_char id ≡ true → pieces id ≡ id ∷ []
-pieces-last [] h = refl
-pieces-last (c ∷ id) h = grind (arith, common_steps, not_dot c, pieces-last id)
-
-record IdFound (strict : Bool) (text rest : List ℕ) : Type 0 where
-  id : List ℕ
-  split : text ≡ id ++ rest
-  good : is_good strict id ≡ true
-
-begins-char : (F : ℕ → Bool) (c : ℕ) (text : List ℕ) → F c ≡ true → take (prefix_len F (c ∷ text)) (c ∷ text) ≡ c ∷ take (prefix_len F text) text
-begins-char F c text h =
-    let e : 1 + prefix_len F text ≡ suc (prefix_len F text) = omega arith in rw (h, e) refl
-
-id-found : (strict : Bool) (text : List ℕ) → begins_identifier text ≡ true → IdFound strict text (behind_id strict text)
+id-found : (strict : Bool) (text : List ℕ) → begins_identifier text ≡ true → At (λ id s. is_good s id ≡ true) text strict (behind_id strict text)
 id-found strict [] h = cc h
 id-found strict (c ∷ text) h = rw (behind-is strict c text) (elim (cases_Bool (strict && (c == 48))) [
-  | inl null ↦ rw null (record { id = c ∷ []; split = refl; good = good-is strict c [] ∙ grind arith })
+  | inl null ↦ rw null (record { piece = c ∷ []; split = refl; is = good-is strict c [] ∙ grind arith })
   | inr plain ↦
       let n = prefix_len (class c) (c ∷ text) in
-      let first = begins-char (class c) c text (grind arith) in
+      let first = while-on (class c) c text (grind arith) in
       rw plain (record {
-        id = take n (c ∷ text);
+        piece = take n (c ∷ text);
         split = sym (take-append-drop n (c ∷ text));
-        good = rw first (good-is strict c _ ∙ rw (rw first at (prefix-all (class c) (c ∷ text)), plain) refl);
+        is = rw first (good-is strict c _ ∙ rw (rw first at (prefix_each (class c) (c ∷ text)), plain) refl);
       })
 ])
 
-pub record IdsFound (strict : Bool) (text rest : List ℕ) : Type 0 where
-  pub ids : List ℕ
-  pub split : text ≡ ids ++ rest
-  pub good : are_good strict ids ≡ true
-
-pub ids-found : (n : ℕ) (strict : Bool) (text : List ℕ) → begins_identifier text ≡ true → length text ≤ n → IdsFound strict text (behind_ids n strict text)
+pub ids-found : (n : ℕ) (strict : Bool) (text : List ℕ) → begins_identifier text ≡ true → length text ≤ n
+    → At (λ ids s. are_good s ids ≡ true) text strict (behind_ids n strict text)
 unfolding behind_ids
 ids-found zero strict text h k = absurd (omega (arith, k, begins-some is_identifier_char text h))
 ids-found (suc n) strict text h k =
     let one = id-found strict text h in
     let rest = behind_id strict text in
-    let each : list_all is_identifier_char one.id ≡ true = grind (arith, one.good) in
+    let each : list_all is_identifier_char one.piece ≡ true = grind (arith, one.is) in
     elim (cases_Bool (begins_dotted_id rest)) [
-      | inr stop ↦ rw stop (record { ids = one.id; split = one.split; good = rw (pieces-last one.id each, one.good) refl })
+      | inr stop ↦ rw stop (record { piece = one.piece; split = one.split; is = rw (pieces_joined one.piece [] (grind (arith, one.is)), one.is) refl })
       | inl on ↦
           let p = and_parts (begins_byte 46 rest) (begins_identifier (drop 1 rest)) on in
           let r = ids-found n strict (drop 1 rest) p.1 (omega (arith, dot-less strict text on, k)) in
           rw on (record {
-            ids = one.id ++ 46 ∷ r.ids;
-            split = one.split ∙ ap (λ (t : List ℕ). one.id ++ t) (byte-begins 46 rest p.0 ∙ ap (λ (t : List ℕ). 46 ∷ t) r.split)
-                ∙ sym (append_assoc one.id (46 ∷ r.ids) (behind_ids n strict (drop 1 rest)));
-            good = rw (pieces-next one.id r.ids each, one.good) r.good;
+            piece = one.piece ++ 46 ∷ r.piece;
+            split = one.split ∙ ap (λ (t : List ℕ). one.piece ++ t) (byte-begins 46 rest p.0 ∙ ap (λ (t : List ℕ). 46 ∷ t) r.split)
+                ∙ sym (append_assoc one.piece (46 ∷ r.piece) (behind_ids n strict (drop 1 rest)));
+            is = rw (pieces-next one.piece r.piece each, one.is) r.is;
           })
     ]
-
--- what is left is no longer than this, and all of it where no identifiers go on there
-pub record Ends (rest left : List ℕ) : Type 0 where
-  pub le : length left ≤ length rest
-  pub exact : goes_on rest ≡ false → left ≡ rest
 
 begins-good : (strict : Bool) (ps : List (List ℕ)) (rest : List ℕ) → list_all (is_good strict) ps ≡ true → 0 < length ps
     → begins_identifier (join_with_byte 46 ps ++ rest) ≡ true
@@ -172,7 +147,7 @@ begins-good strict ((c ∷ id) ∷ p ∷ ps) rest h some = grind arith
 
 -- no less is read than a list that stands there, and no more where it does not go on
 behind-each : (n : ℕ) (strict : Bool) (ps : List (List ℕ)) (rest : List ℕ) → list_all (is_good strict) ps ≡ true → 0 < length ps
-    → length (join_with_byte 46 ps ++ rest) ≤ n → Ends rest (behind_ids n strict (join_with_byte 46 ps ++ rest))
+    → length (join_with_byte 46 ps ++ rest) ≤ n → Behind goes_on rest (behind_ids n strict (join_with_byte 46 ps ++ rest))
 behind-each n strict [] rest h some k = absurd (omega (arith, some))
 behind-each zero strict ps rest h some k =
     absurd (omega (arith, k, begins-some is_identifier_char (join_with_byte 46 ps ++ rest) (begins-good strict ps rest h some)))
@@ -197,7 +172,7 @@ module _ (strict : Bool) (ids rest : List ℕ) (h : are_good strict ids ≡ true
   some : 0 < length (pieces ids)
   some = omega (arith, length-slice_split (λ b. b == 46) ids)
 
-  pub ids-ends : Ends rest (behind_ids (length (ids ++ rest)) strict (ids ++ rest))
+  pub ids-ends : Behind goes_on rest (behind_ids (length (ids ++ rest)) strict (ids ++ rest))
   ids-ends = rw join_with_byte-slice_split at (behind-each (length (join_with_byte 46 (pieces ids) ++ rest)) strict (pieces ids) rest h some (omega arith))
 
   pub ids-begin : begins_identifier (ids ++ rest) ≡ true

@@ -5,8 +5,8 @@ use Rattle.npm_words.proofs.Common.{begins_wildcard, build_front, cases_Bool, co
 use Rattle.npm_words.proofs.Common.{has_leading_zero, if◌then◌else◌, inl, inr, is_ascii_digit, is_none, is_strict_list, length, length-append}
 use Rattle.npm_words.proofs.Common.{length-drop, list_all, listed, nat_le, nat_lt, nat_tests, no_build, no_pre_release, not, one, pieces, plus}
 use Rattle.npm_words.proofs.Common.{prefix_len, refl, subst, suc, sym, take, take-append-drop, three, true, two, zero, ℕ, ◌&&◌, ◌++◌, ◌<◌, ◌==◌, ◌||◌}
-use Rattle.npm_words.proofs.{Common.{◌∙◌, ◌∷◌, ◌≡◌, ◌≤◌, ◌⊎◌}, Grammar.InsideIds.{Ends, are_good, drop-le, ids-begin, ids-ends, ids-found, ids-le}}
-use Rattle.npm_words.proofs.Grammar.{InsideIds.is_good, PartialLaw.{digits-of, run-number}, Runs.run-many, VersionLaw.build-found}
+use Rattle.npm_words.proofs.{Common.{◌∙◌, ◌∷◌, ◌≡◌, ◌≤◌, ◌⊎◌}, Grammar.InsideIds.{Behind, are_good, drop-le, ids-begin, ids-ends, ids-found, ids-le}}
+use Rattle.npm_words.proofs.Grammar.{InsideIds.is_good, PartialLaw.{prefix-of, run-number}, Runs.run-many, VersionLaw.build-found}
 use Rattle.npm_words.specs.{Grammar.{IsPreRelease, written}, Internal.Inside.{begins_dotted, behind_ids, behind_partial, behind_place, behind_places}}
 use Rattle.npm_words.specs.{Internal.Inside.{behind_pre_release, behind_qualifier, capped, is_single, most, starts}, Malformed.{IsInside, are_found}}
 use Rattle.{npm_words.specs.{Malformed.{partial, version}, Partials.{any, number}}, semver_core.proofs.Reading.IdentifierLists.written-begins}
@@ -51,22 +51,19 @@ pre-found strict wild text = elim (cases_Bool (is_dashed text)) [
   | inl dash ↦
       let p = and_parts (begins_byte 45 text) (begins_identifier (drop 1 text)) dash in
       let r = ids-found (length (drop 1 text)) strict (drop 1 text) p.1 (omega arith) in
-      let b = good-fits strict r.ids r.good in
-      rw dash (45 ∷ r.ids, _, byte-begins 45 text p.0 ∙ ap (λ (t : List ℕ). 45 ∷ t) r.split, refl, dashed r.ids _ b.0 b.1)
+      let b = good-fits strict r.piece r.is in
+      rw dash (45 ∷ r.piece, _, byte-begins 45 text p.0 ∙ ap (λ (t : List ℕ). 45 ∷ t) r.split, refl, dashed r.piece _ b.0 b.1)
   | inr other ↦ elim (cases_Bool (is_bare strict text)) [
     | inr off ↦ rw (other, off) ([], [], refl, refl, no_pre_release)
     | inl on ↦
         let t = and_parts (not strict) (begins is_ascii_alphabetic text || begins_byte 45 text) on in
-        let r = ids-found (length text) strict text (bare-begins text t.1) (omega arith) in
-        let b = good-fits strict r.ids r.good in
-        let u = bare-parts r.ids (behind_ids (length text) strict text) r.good (rw r.split at t.1) (rw r.split at other) in
-        rw (other, on) (r.ids, _, r.split, u.1, bare r.ids _ b.0 b.1 (ap₂ ◌&&◌ t.0 (u.0 (strict && wild))))
+        let r = ids-found (length text) strict text (grind (arith, nat_tests, t.1)) (omega arith) in
+        let b = good-fits strict r.piece r.is in
+        let u = bare-parts r.piece (behind_ids (length text) strict text) r.is (rw r.split at t.1) (rw r.split at other) in
+        rw (other, on) (r.piece, _, r.split, u.1, bare r.piece _ b.0 b.1 (ap₂ ◌&&◌ t.0 (u.0 (strict && wild))))
   ]
 ]
   where
-    bare-begins : (text : List ℕ) → (begins is_ascii_alphabetic text || begins_byte 45 text) ≡ true → begins_identifier text ≡ true
-    bare-begins text k = grind (arith, nat_tests)
-
     bare-parts : (ids rest : List ℕ) → are_good strict ids ≡ true → (let all = ids ++ rest in begins is_ascii_alphabetic all || begins_byte 45 all) ≡ true
         → is_dashed (ids ++ rest) ≡ false → ((wild : Bool) → begins_undashed wild ids ≡ true) × (begins is_ascii_digit ids ≡ false)
     bare-parts ids rest g h k = (λ wild. grind (arith, nat_tests), grind (arith, nat_tests))
@@ -83,24 +80,18 @@ none-read : (strict : Bool) (rest : List ℕ) → goes_on rest ≡ false → beh
 unfolding behind_pre_release
 none-read strict rest g = grind (arith, nat_tests, and-false)
 
--- without `-` begins one that begins with a letter, or with a `-` that no identifier follows
-bare-end : (ids rest : List ℕ) → begins_undashed false ids ≡ true → begins is_ascii_digit ids ≡ false → are_good false ids ≡ true
-    → Ends rest (behind_pre_release false (ids ++ rest))
-unfolding behind_pre_release
-bare-end [] rest u q g = cc u
-bare-end (c ∷ ids) rest u q g =
-    let whole = ids-ends false (c ∷ ids) rest g in
-    let some = ids-le (length rest) false rest in
-    grind (arith, nat_tests)
-
 pre-end : (strict wild : Bool) (pre rest : List ℕ) (l : List Id) → IsPreRelease (not strict) (strict && wild) (fits strict) pre l
-    → begins is_ascii_digit pre ≡ false → Ends rest (behind_pre_release strict (pre ++ rest))
+    → begins is_ascii_digit pre ≡ false → Behind goes_on rest (behind_pre_release strict (pre ++ rest))
 unfolding behind_pre_release
 pre-end strict wild pre rest l no_pre_release q = record { le = pre-le strict rest; exact = none-read strict rest }
 pre-end strict wild pre rest l (dashed t list i h) q =
     let g = fits-good strict t list i h in rw (ids-begin strict t rest g) (ids-ends strict t rest g)
 pre-end true wild pre rest l (bare t list i h x) q = cc x
-pre-end false wild pre rest l (bare t list i h x) q = bare-end t rest x q (fits-good false t list i h)
+pre-end false wild pre rest l (bare [] list i h x) q = cc x
+pre-end false wild pre rest l (bare (c ∷ t) list i h x) q =
+    let whole = ids-ends false (c ∷ t) rest (fits-good false (c ∷ t) list i h) in
+    let some = ids-le (length rest) false rest in
+    grind (arith, nat_tests)
 
 qualifier-max : (strict wild : Bool) (pre build rest : List ℕ) (l m : List Id) → IsPreRelease (not strict) (strict && wild) (fits strict) pre l
     → begins is_ascii_digit pre ≡ false → IsStrictBuild build m → length (behind_qualifier strict (pre ++ (build ++ rest))) ≤ length rest
@@ -165,11 +156,11 @@ run-part strict zero c text some le short plain = absurd (omega arith)
 run-part false (suc k) c text some le short plain =
     let len = length-take-le (suc k) (c ∷ text) (omega (arith, le, prefix_len-le-length is_ascii_digit (c ∷ text))) in
     let fits : suc k ≤ 256 = grind (arith, nat_tests) in
-    (run-number (c ∷ take k text) (omega arith) (digits-of (suc k) (c ∷ text) le), omega (arith, len, fits))
+    (run-number (c ∷ take k text) (omega arith) (prefix-of is_ascii_digit (suc k) (c ∷ text) le), omega (arith, len, fits))
 run-part true (suc k) c text some le short plain =
     let len = length-take-le (suc k) (c ∷ text) (omega (arith, le, prefix_len-le-length is_ascii_digit (c ∷ text))) in
     let first : has_leading_zero (c ∷ take k text) ≡ false = grind arith in
-    number (c ∷ take k text) _ (run-number (c ∷ take k text) (omega arith) (digits-of (suc k) (c ∷ text) le)) (rw first refl) (rw len short)
+    number (c ∷ take k text) _ (run-number (c ∷ take k text) (omega arith) (prefix-of is_ascii_digit (suc k) (c ∷ text) le)) (rw first refl) (rw len short)
 
 single-part : (strict : Bool) (c : ℕ) (text : List ℕ) → is_single strict (c ∷ text) ≡ true → (a : Option ℕ) × IsPart strict (c ∷ []) a
 single-part false c text h = cc h
@@ -358,13 +349,7 @@ nothing-read strict text h k = grind (arith, nat_tests)
 pub partial-found : (text : List ℕ) → starts_place text ≡ true → InsideAt text (behind_partial text)
 partial-found text h =
     let (strict, is) = which text in
-    elim (cases_Bool (starts strict text)) [
-      | inl on ↦ elim (places-found strict text on) [
-        | inr found ↦ rw is found
-        | inl none ↦ absurd (omega (arith, partial-less text h, ap length is, ap length none))
-      ]
-      | inr off ↦ absurd (omega (arith, partial-less text h, ap length is, ap length (nothing-read strict text h off)))
-    ]
+    grind (arith, places-found strict text, partial-less text h, nothing-read strict text h)
 
 -- ---- the digits that count
 

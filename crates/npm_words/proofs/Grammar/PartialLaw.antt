@@ -7,35 +7,29 @@ use Rattle.npm_words.proofs.Common.{dotted_place, drop, drop-append-add, drop_at
 use Rattle.npm_words.proofs.Common.{is_ascii_digit, is_boundary, is_empty, is_none, is_spelled, length, length-append, length-prefix_len, list_all}
 use Rattle.npm_words.proofs.Common.{listed, may_stand, nat_le, nat_lt, nat_tests, not, number_front, number_of, number_with, one, partial_of}
 use Rattle.npm_words.proofs.Common.{patch_place, place_front, pre_front, pre_release_with, prefix_len, qualified_partial, refl, run_place, same_Some}
-use Rattle.npm_words.proofs.Common.{subst, suc, take, take-append-drop, take_at, take_rest, take_while, three, true, two, zero, ℕ, ◌&&◌, ◌++◌}
-use Rattle.npm_words.proofs.{Common.{◌+◌, ◌-◌, ◌<◌, ◌>>?◌, ◌||◌, ◌∙◌, ◌∷◌, ◌≡◌, ◌≤◌}, Grammar.{Runs.run-many, VersionLaw.{At, Ends, Follows}}}
-use Rattle.npm_words.proofs.Grammar.VersionLaw.{build-ends, build-found, build-taken, dotted-found, number-short, padded-same, pre-follows, pre-found}
-use Rattle.npm_words.{proofs.Grammar.VersionLaw.{pre-taken, strict_is}, specs.{Grammar.IsPreRelease, Internal.Words.{are_short_builds, is_over}}}
-use Rattle.{npm_words.specs.{Internal.Words.{places_front, third_front}, Table.Partial}, semver_core.proofs.Reading.Bytes.{is_solid, solid-dark}}
+use Rattle.npm_words.proofs.Common.{subst, suc, take, take-append-drop, take_at, take_rest, take_while, three, true, two, zero, ℕ, ◌&&◌, ◌++◌, ◌+◌}
+use Rattle.npm_words.proofs.{Common.{◌-◌, ◌<◌, ◌>>?◌, ◌||◌, ◌∙◌, ◌∷◌, ◌≡◌, ◌≤◌}, Grammar.{Runs.run-many, VersionLaw.{At, Ends, Follows, build-ends}}}
+use Rattle.npm_words.proofs.Grammar.VersionLaw.{build-found, build-taken, dotted-found, number-short, padded-same, pre-follows, pre-found, pre-taken}
+use Rattle.npm_words.{proofs.Grammar.VersionLaw.strict_is, specs.{Grammar.IsPreRelease, Internal.Words.{are_short_builds, is_over, places_front}}}
+use Rattle.{npm_words.specs.{Internal.Words.third_front, Table.Partial}, semver_core.proofs.Reading.Bytes.{is_solid, solid-dark}}
 use Rattle.semver_core.proofs.Reading.{Numbers.{digits-taken, number-found, number-is, number-no_wildcard}, Steps.option-cases}
-use Rattle.std.proofs.lemmas.List.Sums.{prefix_len-drop_all, prefix_len-drop_no, prefix_len-drop_yes}
+use Rattle.{semver_core.proofs.Text.Runs.prefix_each, std.proofs.lemmas.List.Sums.{prefix_len-drop_all, prefix_len-drop_no, prefix_len-drop_yes}}
 use Rattle.npm_words.specs.Partials as Text
 
 pub ruleset prefix_steps = (prefix_len-drop_all, prefix_len-drop_no, prefix_len-drop_yes)
 
 -- ---- runs of digits
 
-pub some-run : (run : List ℕ) → 1 ≤ length run → not (is_empty run) ≡ true
+some-run : (run : List ℕ) → 1 ≤ length run → not (is_empty run) ≡ true
 some-run run h = grind (arith, nat_tests, common_steps)
 
 pub digits-begin : (digits : List ℕ) → 0 < length digits → list_all is_ascii_digit digits ≡ true → begins is_ascii_digit digits ≡ true
 digits-begin digits some each = grind arith
 
-prefix-of : (p : ℕ → Bool) (k : ℕ) (text : List ℕ) → k ≤ prefix_len p text → list_all p (take k text) ≡ true
+pub prefix-of : (p : ℕ → Bool) (k : ℕ) (text : List ℕ) → k ≤ prefix_len p text → list_all p (take k text) ≡ true
 prefix-of p zero text h = refl
 prefix-of p (suc k) [] h = refl
 prefix-of p (suc k) (c ∷ text) h = grind (arith, nat_tests, common_steps, prefix-of p k text)
-
-pub prefix-all : (p : ℕ → Bool) (text : List ℕ) → list_all p (take_while p text) ≡ true
-prefix-all p text = prefix-of p (prefix_len p text) text (omega arith)
-
-pub digits-of : (k : ℕ) (text : List ℕ) → k ≤ prefix_len is_ascii_digit text → list_all is_ascii_digit (take k text) ≡ true
-digits-of k text h = prefix-of is_ascii_digit k text h
 
 pub digits_all : (text : List ℕ) → nat_lt (prefix_len is_ascii_digit text) (length text) ≡ not (list_all is_ascii_digit text)
 digits_all [] = refl
@@ -48,7 +42,7 @@ place-read : (loose : Bool) (x more : List ℕ) (a : Option ℕ) → IsPlace loo
 unfolding place_front
 place-read loose x more a (Text.any b h) stop = rw h refl
 place-read loose x more a (Text.number digits n k spelled short) stop =
-    grind (arith, nat_tests, common_steps, number-no_wildcard, digits-begin, digits-taken, take_at, drop_at, some-run)
+    grind (arith, nat_tests, common_steps, number-no_wildcard, digits-begin, digits-taken, take_at, drop_at)
 
 -- how many digits a third place takes
 pub patch-exact : (loose : Bool) (run rest : List ℕ) → list_all is_ascii_digit run ≡ true → Follows loose rest
@@ -57,17 +51,13 @@ pub patch-exact : (loose : Bool) (run rest : List ℕ) → list_all is_ascii_dig
 patch-exact loose run rest each f =
     rw (run-many is_ascii_digit run rest each, drop-append-add) (grind (arith, nat_tests, common_steps))
 
-run-read : (loose : Bool) (run rest : List ℕ) (n : ℕ) → IsNumber n run n → is_spelled loose run ≡ true → (loose || nat_le (length run) 257) ≡ true
-    → run_place loose run rest ≡ Some (Some n, rest)
-run-read loose run rest n k spelled short = grind (arith, some-run run, k.some, k.value)
-
 patch-read : (loose : Bool) (run rest : List ℕ) (n : ℕ) → IsNumber n run n → is_spelled loose run ≡ true → (loose || nat_le (length run) 257) ≡ true
     → Follows loose rest → patch_place loose (run ++ rest) ≡ Some (Some n, rest)
 unfolding patch_place place_front
 patch-read loose run rest n k spelled short f =
     let text = run ++ rest in
     let dark = number-no_wildcard run rest (digits-begin run k.some k.each) in
-    let fits = run-read loose run rest n k spelled short in
+    let fits : run_place loose run rest ≡ Some (Some n, rest) = grind (arith, nat_tests, common_steps, k.some, k.value) in
     let len = patch-exact loose run rest k.each f in
     let front = take_at run rest (length run) refl in
     let behind = drop_at run rest (length run) refl in
@@ -105,7 +95,7 @@ cut-found loose k text a rest h e =
     elim (cases_Bool (not (is_empty run) && (loose || nat_le (length run) 257) && is_spelled loose run)) [
       | inr none ↦ cc (rw none at e)
       | inl good ↦
-          let f = run-place loose run (digits-of k text h) good in
+          let f = run-place loose run (prefix-of is_ascii_digit k text h) good in
           grind (arith, take-append-drop k text)
     ]
 
@@ -122,11 +112,7 @@ patch-found : (loose : Bool) (text : List ℕ) (a : Option ℕ) (rest : List ℕ
     → At (IsPlace loose) text a rest
 unfolding patch_place
 patch-found loose text a rest h =
-    let n = prefix_len is_ascii_digit text in
-    elim (cases_Bool (loose && begins_byte 46 (drop n text))) [
-      | inr bare ↦ place-found loose text a rest (rw bare at h)
-      | inl cut ↦ cut-found loose (n - 1) text a rest (omega arith) (rw cut at h)
-    ]
+    let cut = cut-found loose (prefix_len is_ascii_digit text - 1) text a rest (omega arith) in grind (arith, place-found)
 
 -- ---- nothing goes on at a boundary
 
@@ -216,7 +202,7 @@ pub run-leading : (text : List ℕ) → has_leading_zero (take_while is_ascii_di
 run-leading text = grind (arith, nat_tests, common_steps)
 
 -- a number up to the limit
-number-valued : (loose : Bool) (text : List ℕ) (n : ℕ) (rest : List ℕ) → number_front MAX_SAFE_INTEGER text ≡ Some (n, rest)
+pub number-valued : (loose : Bool) (text : List ℕ) (n : ℕ) (rest : List ℕ) → number_front MAX_SAFE_INTEGER text ≡ Some (n, rest)
     → (not loose && begins_padded text) ≡ false → (loose || nat_le (prefix_len is_ascii_digit text) 257) ≡ true
     → (place_front loose text ≡ Some (Some n, rest)) × (nat_le n MAX_SAFE_INTEGER ≡ true)
 number-valued loose text n rest h spelled short =
@@ -225,11 +211,6 @@ number-valued loose text n rest h spelled short =
     let few : (loose || nat_le (length f.run) 257) ≡ true = grind (arith, digits-taken) in
     let place : IsPlace loose f.run (Some n) = Text.number f.run n same (grind (arith, nat_tests, padded-same)) few in
     (grind (arith, nat_tests, common_steps, place-read), grind (arith, nat_tests, f.is.safe))
-
-pub valued_placed : (loose : Bool) (text : List ℕ) (n : ℕ) (rest : List ℕ) → number_front MAX_SAFE_INTEGER text ≡ Some (n, rest)
-    → (not loose && begins_padded text) ≡ false → (loose || nat_le (prefix_len is_ascii_digit text) 257) ≡ true
-    → first_as capped_one (place_front loose text) ≡ Some (Some n, rest)
-valued_placed loose text n rest h spelled short = let v = number-valued loose text n rest h spelled short in rw (v.0, v.1) refl
 
 -- without leading zeros
 pub number-read : (loose : Bool) (text : List ℕ) (n : ℕ) (rest : List ℕ) → number_with false MAX_SAFE_INTEGER text ≡ Some (n, rest)
@@ -242,10 +223,6 @@ number-read loose text n rest h =
     let short = number-short run n (i, run-leading text ∙ bare) in
     number-valued loose text n rest k (rw bare (and-false (not loose))) (grind (arith, nat_tests, short, length-prefix_len is_ascii_digit text))
 
-pub number_placed : (loose : Bool) (text : List ℕ) (n : ℕ) (rest : List ℕ) → number_with false MAX_SAFE_INTEGER text ≡ Some (n, rest)
-    → first_as capped_one (place_front loose text) ≡ Some (Some n, rest)
-number_placed loose text n rest h = let v = number-read loose text n rest h in rw (v.0, v.1) refl
-
 pub wildcard_read : (loose : Bool) (text : List ℕ) → begins_wildcard text ≡ true → place_front loose text ≡ Some (None, drop 1 text)
 unfolding place_front
 wildcard_read loose text h = rw h refl
@@ -255,11 +232,11 @@ pub great_placed : (loose : Bool) (text : List ℕ) (at : ℕ) → number_front 
     → first_as capped_one (place_front loose text) ≡ Some (Some (MAX_SAFE_INTEGER + 1), take (length text - at) (drop at text))
 unfolding number_of
 great_placed loose text at front dark bare is first last =
-    grind (arith, nat_tests, common_steps, place_run, run-leading, length-prefix_len, prefix-all, some-run, take_rest)
+    grind (arith, nat_tests, common_steps, place_run, run-leading, length-prefix_len, prefix_each, some-run, take_rest)
 
-pub ruleset places_found = (number_placed, wildcard_read)
+pub ruleset places_found = (number-read, wildcard_read)
 
-pub ruleset padded_places = (valued_placed, strict_is, run-leading, place_run, length-prefix_len, nat_tests)
+pub ruleset padded_places = (number-valued, strict_is, run-leading, place_run, length-prefix_len, nat_tests)
 
 -- ---- the third place
 
@@ -275,7 +252,7 @@ pub patch_cut : (loose : Bool) (text : List ℕ) (at own : ℕ) (o : Front (Opti
     → (loose && begins_byte 46 (drop at text)) ≡ true → own ≡ at - 1 → o ≡ first_as capped_one (place_front loose (take own text))
     → (o >>? λ p. Some (p.0, take (length text - own) (drop own text))) ≡ first_as capped_one (patch_place loose text)
 unfolding patch_place
-patch_cut loose text at own o e h less is = grind (arith, nat_tests, common_steps, digits-of, run-alone, take_rest)
+patch_cut loose text at own o e h less is = grind (arith, nat_tests, common_steps, prefix-of is_ascii_digit, run-alone, take_rest)
 
 -- ---- partial versions as the code has them
 

@@ -9,20 +9,17 @@ use Rattle.npm_words.proofs.Common.{is_strict_identifier, is_valid, is_zero, joi
 use Rattle.npm_words.proofs.Common.{nat_le, nat_tests, no_build, no_pre_release, pieces, refl, release, subst, sym, true, under, version_text, whole}
 use Rattle.npm_words.proofs.{Common.{within, ℕ, ◌&&◌, ◌++◌, ◌+◌, ◌<◌, ◌==◌, ◌^◌, ◌||◌, ◌∙◌, ◌∷◌, ◌≡◌, ◌≤◌}, FlawPlaces.Read.plain-encodes}
 use Rattle.npm_words.{proofs.{FlawPlaces.Read.{plain-middle, plain-trim}, Grammar.VersionLaw.{digits_printed, number_printed}}, specs.Grammar.written}
-use Rattle.{npm_words.specs.{Internal.Words.capped, Table.{Partial, Sign, lowest, table}}, semver_core.proofs.Printing.Returns.decimal_digits}
-use Rattle.semver_core.{proofs.Printing.Returns.decimal_some, specs.{Internal.CommonReading.is_plain, Text.Identifiers.is_u64_text}}
-use Rattle.std.proofs.lemmas.{Fmt.{decimal_digit, decimal_injective, length-decimal-le}, List.Splits.{join_with_byte-slice_split, length-slice_split}}
+use Rattle.{npm_words.specs.Table.{Partial, Sign, lowest, table}, semver_core.proofs.Printing.Returns.{decimal_digits, decimal_some}}
+use Rattle.{semver_core.specs.{Internal.CommonReading.is_plain, Text.Identifiers.is_u64_text}, std.proofs.lemmas.Fmt.decimal_digit}
+use Rattle.std.proofs.lemmas.{Fmt.{decimal_injective, length-decimal-le}, List.Splits.{join_with_byte-slice_split, length-slice_split}}
 use Rattle.std.{proofs.lemmas.Str.{IsUtf8-from_ascii, chars-IsAscii}, specs.Str.IsAscii}
 use Rattle.npm_words.specs.Internal.Parts as Parts
 
 -- ---- lengths
 
-decimal_short : (n : ℕ) → n ≤ MAX_SAFE_INTEGER → length (decimal n) ≤ 16
-decimal_short n h = length-decimal-le 16 n (omega arith) (omega arith) (omega arith)
-
 -- what numbers up to the limit print, with the dots between them
 pub numbers_short : (n : Numbers) → within n ≡ true → length (decimal n.0) + length (decimal n.1) + length (decimal n.2) + 2 ≤ 50
-numbers_short n h = grind (arith, nat_tests, common_steps, and_parts, decimal_short)
+numbers_short n h = grind (arith, nat_tests, common_steps, and_parts, length-decimal-le 16)
 
 pub text_length : (v : VersionValue) → length (version_text (Parts.no_build v))
     ≡ (length (decimal v.major) + length (decimal v.minor) + length (decimal v.patch) + 2) + length (marked_list (45 ∷ []) v.pre_release)
@@ -55,8 +52,7 @@ prints_zero v a b c =
 pub bare_short : (v : VersionValue) → within (first (whole v)) ≡ true → is_release v ≡ true
     → true ≡ nat_le (length (version_text (Parts.no_build v))) MAX_LENGTH
 bare_short v h e =
-    let none : v.pre_release ≡ [] = empty_is v.pre_release e in
-    rw (text_length v, none) (grind (arith, nat_tests, numbers_short (v.major, v.minor, v.patch) h))
+    rw (text_length v, empty_is v.pre_release e) (grind (arith, nat_tests, numbers_short (v.major, v.minor, v.patch) h))
 
 lowest_short : (n : Numbers) → within n ≡ true → nat_le (length (version_text (lowest n))) MAX_LENGTH ≡ true
 lowest_short n h = rw (text_length (lowest n)) (grind (arith, nat_tests, common_steps, decimal_digit, numbers_short n h))
@@ -91,11 +87,8 @@ upper-invalid c include p text h = grind (arith, nat_tests, common_steps, table-
 
 -- ---- numbers past the limit as the code has them
 
-capped-le : (n : ℕ) → nat_le (capped n) MAX_SAFE_INTEGER ≡ nat_le n MAX_SAFE_INTEGER
-capped-le n = grind arith
-
 pub capped-within : (p : Partial) → within (first (capped_partial p)) ≡ within (first p)
-capped-within p = grind (arith, capped-le)
+capped-within p = grind arith
 
 pub capped-same : (p : Partial) → within (first p) ≡ true → capped_partial p ≡ p
 capped-same p h = grind arith

@@ -3,16 +3,16 @@
 use Rattle.npm_words.proofs.Common.{AreRead, Before, Bool, Bound, Bounds, Comparator, Comparison, IsCommon, IsNarrowed, List, MAX_LENGTH}
 use Rattle.npm_words.proofs.Common.{MAX_SAFE_INTEGER, None, Numbers, Option, Some, Span, Unbounded, VersionValue, [], ap, ap₂, are_normal, arith}
 use Rattle.npm_words.proofs.Common.{at_least, at_most, below, both_ways, bytes_eq, bytes_eq-Decides, caret_from, cases_Bool, codes, common_steps}
-use Rattle.npm_words.proofs.Common.{compared, counted, counts, equal, false, filter-append, first, from, greater_lower, holds, if◌then◌else◌, inl}
-use Rattle.npm_words.proofs.Common.{inr, interval, is_empty, is_gt, is_interval, is_past, is_range_bound, is_readable, is_valid, is_zero, length}
-use Rattle.npm_words.proofs.Common.{lesser_upper, lets_in, list_all, lower_cut, map, nat_le, nat_tests, next_changed, not, precedence}
-use Rattle.npm_words.proofs.Common.{precedence_total, refl, sym, true, under, upper_cut, version_text, whole, within, ℕ, ◌&&◌, ◌++◌, ◌+◌, ◌||◌, ◌∙◌}
-use Rattle.npm_words.{proofs.{Common.{◌∷◌, ◌≡◌, ◌⊎◌}, Grammar.Printed.{from_valid, prints_zero, under_valid}}, specs.Alternatives.common}
-use Rattle.npm_words.specs.{Alternatives.satisfying, Internal.{Alternatives.met, Meaning.{common_in, is_part}, Parts.{AreZeros, has_no_comparators}}}
-use Rattle.npm_words.specs.{Internal.Parts.{is_padded, no_build, noted}, Table.{Partial, Sign, caret, lowest, next, table, tilde, unbuilt}}
-use Rattle.{npm_words.specs.Table.written_zeros, semver_core.proofs.CutLaws.{between, cut_total, gt_lt, is_past-greater_lower, is_past-lesser_upper}}
-use Rattle.semver_core.{proofs.{CutLaws.lt_trans, Gate.{both, lets_in-meet, lets_in_one}}, specs.{Cuts.{Cut, cut_cmp}, Values.Versions.IsVersion}}
-use Rattle.std.{proofs.{Math.Bool.or-true, lemmas.List.map-append}, specs.Cmp.upto}
+use Rattle.npm_words.proofs.Common.{compared, counted, counts, equal, false, filter-append, first, from, holds, if◌then◌else◌, inl, inr, interval}
+use Rattle.npm_words.proofs.Common.{is_empty, is_gt, is_interval, is_past, is_readable, is_valid, is_zero, length, lets_in, list_all, lower_cut, map}
+use Rattle.npm_words.proofs.Common.{nat_le, nat_tests, next_changed, not, precedence, precedence_total, refl, sym, true, under, upper_cut}
+use Rattle.npm_words.proofs.{Common.{version_text, whole, within, ℕ, ◌&&◌, ◌++◌, ◌||◌, ◌∙◌, ◌∷◌, ◌≡◌, ◌⊎◌}, Grammar.Printed.{from_valid, prints_zero}}
+use Rattle.npm_words.{proofs.Grammar.Printed.under_valid, specs.{Alternatives.{common, satisfying}, Internal.{Alternatives.met, Meaning.common_in}}}
+use Rattle.npm_words.specs.{Internal.{Meaning.is_part, Parts.{AreZeros, has_no_comparators, is_padded, no_build, noted}}, Table.{Partial, Sign}}
+use Rattle.{npm_words.specs.Table.{caret, lowest, next, table, tilde, unbuilt, written_zeros}, semver_core.proofs.CutLaws.{between, cut_total, gt_lt}}
+use Rattle.semver_core.proofs.{CutLaws.{is_past-greater_lower, is_past-lesser_upper, lt_trans}, Gate.{both, lets_in-meet, lets_in_one}}
+use Rattle.{semver_core.specs.{Cuts.{Cut, cut_cmp}, Values.Versions.IsVersion}, std.proofs.{Math.Bool.or-true, lemmas.List.map-append}}
+use Rattle.std.specs.Cmp.{upto}
 use Rattle.semver_core.specs.Values.Spans as Spans
 
 -- ---- where a word has no comparators
@@ -29,9 +29,6 @@ comparison c w text = record { sign = c; version = w; text = text }
 abbrev pub everything : Span VersionValue
 everything = record { lower = Unbounded; upper = Unbounded }
 
-open_upper : (b : Bound VersionValue) → greater_lower precedence b Unbounded ≡ b
-open_upper b = grind arith
-
 -- the bounds are of that version, whose numbers may be greater by one
 pub one_common : (include : Bool) (c : Comparator) (w : VersionValue) (text : List ℕ)
     → is_readable MAX_SAFE_INTEGER w ≡ true → counts include (comparison c w text) ≡ true
@@ -46,11 +43,6 @@ pub uncounted_common : (include : Bool) (c : Comparison) → counts include c �
 uncounted_common include c h = record { is = rw h refl; lower = refl; upper = refl }
 
 -- ---- two lists
-
--- the bounds of two spans together are bounds of these
-kept : (F : Bound VersionValue → Bool) (b c : Bound VersionValue) → F b ≡ true → F c ≡ true
-    → (F (greater_lower precedence b c) ≡ true) × (F (lesser_upper precedence b c) ≡ true)
-kept F b c h k = (grind arith, grind arith)
 
 pub holds-both : (s t : Span VersionValue) (v : VersionValue) → holds precedence (both s t) v ≡ (holds precedence s v && holds precedence t v)
 holds-both s t v =
@@ -116,8 +108,8 @@ module _ (include : Bool) (cs ds : List Comparison) where
   pub both_common : (s t : Span VersionValue) → IsCommon include cs s → IsCommon include ds t → IsCommon include (cs ++ ds) (both s t)
   both_common s t h k = record {
     is = ap₂ both h.is k.is ∙ sym common-both;
-    lower = (kept (is_range_bound (MAX_SAFE_INTEGER + 1)) s.lower t.lower h.lower k.lower).0;
-    upper = (kept (is_range_bound (MAX_SAFE_INTEGER + 1)) s.upper t.upper h.upper k.upper).1;
+    lower = grind (arith, h.lower, k.lower);
+    upper = grind (arith, h.upper, k.upper);
   }
 
   -- the bounds of more comparators, which may be no interval
@@ -168,8 +160,7 @@ pub until_common : (include : Bool) (c : Comparison) (b : Bound VersionValue) (n
     → IsCommon include (c ∷ []) (record { lower = b; upper = Unbounded })
     → IsCommon include (c ∷ (under n ∷ [])) (record { lower = b; upper = Before (lowest n) })
 until_common include c b n w h =
-    rw (open_upper b) at (both_common include (c ∷ []) (under n ∷ []) (record { lower = b; upper = Unbounded })
-    (Spans.< (lowest n)) h (under_common include n w))
+    let both = both_common include (c ∷ []) (under n ∷ []) _ _ h (under_common include n w) in grind arith
 
 pub until_valid : (c : Comparison) (n : Numbers) → is_valid MAX_SAFE_INTEGER c ≡ true → within n ≡ true
     → list_all (is_valid MAX_SAFE_INTEGER) (c ∷ (under n ∷ [])) ≡ true

@@ -1,6 +1,8 @@
 -- Runs of the bytes of one class at the front of a text, and functions that go along a text step by step.
-use Rattle.npm_words.proofs.Common.{Bool, List, [], and_parts, arith, begins, common_steps, drop, drop-append-add, false, if◌then◌else◌, length}
-use Rattle.npm_words.proofs.Common.{list_all, nat_tests, prefix_len, refl, suc, sym, true, zero, ℕ, ◌++◌, ◌+◌, ◌<◌, ◌∙◌, ◌∷◌, ◌≡◌, ◌≤◌}
+use Rattle.npm_words.proofs.Common.{Bool, List, [], and_parts, arith, begins, common_steps, drop, drop-append-add, encode_ascii, encode_utf8}
+use Rattle.npm_words.proofs.Common.{encode_utf8_all, false, if◌then◌else◌, le-ltb, length, list_all, lt-ltb, nat_tests, prefix_len, refl, suc, sym}
+use Rattle.{npm_words.proofs.Common.{take_while, true, zero, ℕ, ◌++◌, ◌+◌, ◌<◌, ◌∙◌, ◌∷◌, ◌≡◌, ◌≤◌}, semver_core.proofs.Reading.Bytes.all-join}
+use Rattle.semver_core.proofs.Text.Runs.{take_one}
 
 -- ---- runs
 
@@ -19,10 +21,17 @@ run-none F rest h = grind arith
 pub run-exact : (F : ℕ → Bool) (x rest : List ℕ) → list_all F x ≡ true → begins F rest ≡ false → drop (prefix_len F (x ++ rest)) (x ++ rest) ≡ rest
 run-exact F x rest h k = grind (arith, run-behind F x rest h, run-none)
 
--- no byte of the class is left in front
-pub run-ends : (F : ℕ → Bool) (text : List ℕ) → begins F (drop (prefix_len F text) text) ≡ false
-run-ends F [] = refl
-run-ends F (c ∷ text) = let next = drop-append-add (c ∷ []) text (prefix_len F text) in grind (arith, run-ends F text)
+-- a byte of its class begins it
+pub while-on : (F : ℕ → Bool) (c : ℕ) (rest : List ℕ) → F c ≡ true → take_while F (c ∷ rest) ≡ c ∷ take_while F rest
+while-on F c rest h = rw h (take_one (prefix_len F rest) c rest)
+
+-- bytes of characters: the class has all those above ASCII
+pub encoded-all : (p F : ℕ → Bool) → ((n : ℕ) → 128 ≤ n → F n ≡ true) → ((c : ℕ) → c < 128 → p c ≡ true → F c ≡ true) → (cs : List ℕ)
+    → list_all p cs ≡ true → list_all F (encode_utf8_all cs) ≡ true
+unfolding encode_utf8
+encoded-all p F high low [] h = refl
+encoded-all p F high low (c ∷ cs) h =
+    grind (arith, nat_tests, common_steps, and_parts, all-join, encode_ascii, le-ltb, lt-ltb, high, low c, encoded-all p F high low cs)
 
 -- ---- steps
 

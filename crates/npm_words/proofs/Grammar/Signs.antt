@@ -137,10 +137,7 @@ plain-found text u = let x = blank-at text u in let is = sign (compared equal) x
 -- the same of a character that is this one or another
 on-byte : (b k : ℕ) (rest : List ℕ) (r s : Sign × List ℕ) → k < 128 → IsUtf8 (b ∷ rest) → (IsUtf8 rest → SignRead (k ∷ rest) r)
     → SignRead (b ∷ rest) s → SignRead (b ∷ rest) (if b == k then r else s)
-on-byte b k rest r s low u f other = elim (cases_Bool (b == k)) [
-  | inr e ↦ rw e other
-  | inl e ↦ (let same = eqb-true b k e in rw (e, same) (f (tail-utf8 k rest low (subst (λ (n : ℕ). IsUtf8 (n ∷ rest)) same u))))
-]
+on-byte b k rest r s low u f other = grind (arith, nat_tests, eqb-true, tail-utf8 k rest low)
 
 pub sign-found : (text : List ℕ) → IsUtf8 text → SignAt text (npm_sign text).0 (npm_sign text).1
 unfolding npm_sign
@@ -168,10 +165,7 @@ space-byte : (c : ℕ) (text : List ℕ) → is_solid c ≡ true → 0 < space_l
 space-byte c text s h = grind (arith, nat_tests, common_steps, solid-dark, eqb-true)
 
 pub blank-byte : (c : ℕ) (x text : List ℕ) → is_solid c ≡ true → IsBlank x → begins_byte c text ≡ false → begins_byte c (x ++ text) ≡ false
-blank-byte c x text s h other = elim (blank-cases x h) [
-  | inl none ↦ rw none other
-  | inr some ↦ space-byte c (x ++ text) s (some text)
-]
+blank-byte c x text s h other = grind (arith, blank-cases x h, space-byte)
 
 -- ---- marks before a partial
 

@@ -8,24 +8,16 @@ use Rattle.npm_words.proofs.Common.{inr, is_ascii_digit, is_empty, is_identifier
 use Rattle.npm_words.proofs.Common.{no_pre_release, not, number_front, number_with, plus, pre_front, pre_release_front, pre_release_with, refl, sym}
 use Rattle.npm_words.proofs.Common.{take, take-append-drop, take_rest, true, ℕ, ◌&&◌, ◌++◌, ◌-◌, ◌<◌, ◌==◌, ◌>>?◌, ◌^◌, ◌||◌, ◌∷◌, ◌≡◌, ◌≤◌, ◌⊎◌}
 use Rattle.{npm_words.specs.Grammar.{IsPreRelease, IsWritten, written}, semver_core.proofs.Reading.{Boundaries.byte-is, Bytes.is_solid}}
-use Rattle.semver_core.proofs.Reading.{IdentifierLists.{front-identifiers, written-begins, written-exact, written-spelled}, Numbers.front_none}
-use Rattle.semver_core.proofs.{Reading.{Numbers.{front_some, number-found, number-read}, Qualifiers.byte-begins}, Text.Pieces.list_ended}
-use Rattle.semver_core.{proofs.Text.Runs.{list_len_stop, numerals}, specs.Internal.Fronts.{Front, marked_list}}
-use Rattle.std.proofs.lemmas.{Fmt.{decimal-digits_value, length-decimal-le}, Str.{encodes-chars, length-le-encodes}}
+use Rattle.semver_core.proofs.Reading.{IdentifierLists.{front-identifiers, written-begins, written-exact, written-spelled}, Numbers.number-found}
+use Rattle.semver_core.proofs.{Reading.{Numbers.number-read, Qualifiers.byte-begins}, Text.{Pieces.list_ended, Runs.{list_len_stop, numerals}}}
+use Rattle.{semver_core.specs.Internal.Fronts.{Front, marked_list}, std.proofs.lemmas.Fmt.{decimal-digits_value, length-decimal-le}}
+use Rattle.std.proofs.lemmas.Str.{encodes-chars, length-le-encodes}
 
 -- ---- the number that the code finds
 
 pub strict_is : (limit : ℕ) (text : List ℕ) → number_with false limit text ≡ (if begins_padded text then None else number_front limit text)
 unfolding number_with
 strict_is limit text = refl
-
-pub front_there : (limit : ℕ) (text : List ℕ) (n end : ℕ) → IsPieceAt (λ digits rest. IsWholeNumber limit digits rest n) text 0 end
-    → number_front limit text ≡ Some (n, take (length text - end) (drop end text))
-front_there limit text n end piece = rw (take_rest text end) (front_some limit text n end piece)
-
-pub ruleset numbers_in = (front_none, front_there)
-
-pub ruleset numbers_found = (strict_is, front_none)
 
 -- ---- a number is written where one is read, and read where one is written
 

@@ -73,10 +73,7 @@ word-read loose include w y rest cs (word signs marks x s p h m e k) b =
 -- ---- whitespace
 
 pub blank-space : (blank rest : List ℕ) → IsBlank blank → 0 < length blank → 0 < space_len (blank ++ rest)
-blank-space blank rest h some = elim (blank-cases blank h) [
-  | inl e ↦ absurd (omega (arith, some, ap length e))
-  | inr white ↦ white rest
-]
+blank-space blank rest h some = grind (arith, blank-cases blank h)
 
 pub blank-boundary : (blank rest : List ℕ) → IsBlank blank → 0 < length blank → is_boundary (blank ++ rest) ≡ true
 unfolding is_boundary
@@ -151,8 +148,8 @@ first-read loose include text rest cs u (ignored behind l some absent i s) =
       | inr w ↦ absurd (absent (drop (marks_len w.0.0.2) w.0.0.2) w.0.1 (table include w.0.0.0 w.0.0.1 w.0.0.2)
           (signed-found loose include text w.0.0 w.0.1 u w.1).is)
     ] in
-    let end = ignored-read (length text) text behind u i (omega arith) in
-    rw (none, l, end) (ap (λ (t : List ℕ). Some (None, t)) (skips-of behind rest (rw end at (ignored-found (length text) text u (omega arith)).utf8) s))
+    let end = ignored-read text behind u i in
+    rw (none, l, end) (ap (λ (t : List ℕ). Some (None, t)) (skips-of behind rest (rw end at (ignored-found text u).utf8) s))
 
 -- what is read at the front
 pub record FirstAt (loose include : Bool) (text : List ℕ) (cs : Option (List Comparison)) (rest : List ℕ) : Type 0 where
@@ -173,13 +170,13 @@ first-found loose include text cs rest u some h = go (signed_word loose text) re
     go None e k =
         let end = behind_ignored (length text) text in
         let t = cond_some loose (None, drop_spaces end) (cs, rest) k in
-        let i = ignored-found (length text) text u (omega arith) in
+        let i = ignored-found text u in
         let s = skipped end i.utf8 in
         let absent : (partial behind : List ℕ) → NoValue (BeginsWord loose include text partial behind) = λ partial behind ds w.
         let r = word-read loose include w.0 partial behind ds w.2 (boundary-of behind w.3) in
         cc (e, ap (λ (t : List ℕ). signed_word loose t) w.1 ∙ r.read) in
         subst (λ (r : Option (List Comparison) × List ℕ). FirstAt loose include text r.0 r.1) t.1
-        (record { is = ignored end t.0 (grind (arith, nat_tests)) absent i.is s.0; utf8 = s.1; shorter = i.less some })
+        (record { is = ignored end t.0 (grind (arith, nat_tests)) absent i.is s.0; utf8 = s.1; shorter = omega (arith, i.less, some) })
     go (Some w) e k =
         let t = cond_some (is_short_word loose w.0.2) (Some (table include w.0.0 w.0.1 w.0.2), drop_spaces w.1) (cs, rest) k in
         let f = signed-found loose include text w.0 w.1 u e in
@@ -203,8 +200,7 @@ begins-longer : (loose include : Bool) (text rest : List ℕ) (cs : Option (List
 begins-longer loose include text rest cs u (ignored behind l some absent i s) = grind (arith, nat_tests)
 begins-longer loose include text rest cs u (formed partial behind ds w short s) =
     let r = word-read loose include w.0 partial behind ds w.2 (boundary-of behind w.3) in
-    let here : signed_word loose text ≡ Some (r.word, behind) = ap (λ (t : List ℕ). signed_word loose t) w.1 ∙ r.read in
-    omega (arith, (signed-found loose include text r.word behind u here).shorter)
+    omega (arith, (signed-found loose include text r.word behind u (ap (signed_word loose) w.1 ∙ r.read)).shorter)
 
 pub words-read : (loose include : Bool) (n : ℕ) (text : List ℕ) (all : List (Option (List Comparison))) → IsUtf8 text → AreWords loose include text all
     → length text ≤ n → words_within loose include n text ≡ Some all

@@ -84,17 +84,15 @@ zeros-partial n b c l m = grind (arith, nat_tests)
 
 -- strictly the table's numbers are written as they are
 pub strict-zeros : (x : List ℕ) (p : Partial) → IsPlaces false x p → AreZeros p (zeros p) x
-strict-zeros x p (Text.one x1 None h) w = cc w
 strict-zeros x p (Text.one x1 (Some n) h) w =
     let here : zeros (major n) ≡ counted (n == 0) false false = grind (arith, nat_tests) in
     here ∙ sym (rw append-nil at (zeros-behind x1 [] n h refl))
-strict-zeros x p (Text.two x1 y None b h k) w = cc w
 strict-zeros x p (Text.two x1 y (Some n) b h k) w =
     sym (subst (λ (t : List ℕ). written_zeros (x1 ++ (46 ∷ t)) ≡ zeros (partial_of (Some n) b None [] [])) (append-nil y)
     (zeros-dotted x1 y [] n b None h k refl (λ _. refl) ∙ zeros-partial n b None [] []))
-strict-zeros x p (Text.three x1 y z pre build None b c ids builds h k l m n t) w = cc w
 strict-zeros x p (Text.three x1 y z pre build (Some a) b c ids builds h k l m n t) w =
     grind (arith, nat_tests, common_steps, zeros-dotted, zero-place, behind-quiet, zeros-partial)
+strict-zeros x p h w = cc w
 
 pub padded-same : (text : List ℕ) (p : Partial) (z : ℕ) → AreZeros p z text → is_padded z p ≡ is_padded (written_zeros text) p
 padded-same text p z e = grind (arith, nat_tests)

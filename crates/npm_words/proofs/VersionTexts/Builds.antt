@@ -1,9 +1,8 @@
 -- The build of a version text, as it is written: what stands behind the first `+`, since none stands in front of the build.
 use Rattle.npm_words.proofs.Common.{AreMarks, Bool, Id, IsIdentifiers, IsNumber, IsStrictBuild, IsStrictVersion, IsTrim, List, VersionValue, []}
-use Rattle.npm_words.proofs.Common.{all_weaker, and_parts, arith, common_steps, encode_ascii, encode_utf8, encode_utf8_all, false, is_ascii_digit}
-use Rattle.npm_words.proofs.Common.{is_identifier, is_identifier_char, is_mark, is_whitespace, join_with_byte, le-ltb, list_all, listed, lt-ltb}
-use Rattle.npm_words.proofs.Common.{middle_is_trim, nat_tests, not, pieces, refl, subst, sym, true, ℕ, ◌++◌, ◌==◌, ◌||◌, ◌∙◌, ◌∷◌}
-use Rattle.npm_words.{proofs.{Common.{◌≡◌, ◌≤◌}, Grammar.VersionLaw.build-taken}, specs.{Builds.IsBuildText, Grammar.{IsPreRelease, IsWritten}}}
+use Rattle.npm_words.proofs.Common.{all_weaker, arith, common_steps, false, is_ascii_digit, is_identifier, is_identifier_char, join_with_byte}
+use Rattle.npm_words.proofs.Common.{list_all, listed, middle_is_trim, nat_tests, not, pieces, refl, subst, sym, true, ℕ, ◌++◌, ◌==◌, ◌∙◌, ◌∷◌, ◌≡◌}
+use Rattle.npm_words.{proofs.Grammar.{Runs.encoded-all, VersionLaw.build-taken}, specs.{Builds.IsBuildText, Grammar.{IsPreRelease, IsWritten}}}
 use Rattle.{npm_words.specs.{Grammar.written, VersionText.{IsLooseVersion, IsVersionTextIn, IsWhole}}, semver_core.proofs.Reading.Bytes.all-join}
 use Rattle.semver_core.{proofs.Text.Ends.{is_spelled, nothing_listed}, specs.Text.Identifiers.is_listed}
 use Rattle.std.{proofs.lemmas.List.Splits.join_with_byte-slice_split, specs.List.after_first}
@@ -32,19 +31,8 @@ identifiers-other t l h = rw (join_with_byte-slice_split 46 t) at (joined-other 
 pre-other : (loose wild : Bool) (fits : List ℕ → Bool) (p : List ℕ) (l : List Id) → IsPreRelease loose wild fits p l → NoPlus p
 pre-other loose wild fits p l h = grind (arith, nat_tests, common_steps, identifiers-other)
 
-high-other : (n : ℕ) → 128 ≤ n → is_other n ≡ true
-high-other n h = grind (arith, nat_tests)
-
-bytes-other : (c : ℕ) → (is_mark c || is_whitespace c) ≡ true → NoPlus (encode_utf8 c)
-unfolding encode_utf8
-bytes-other c h = grind (arith, nat_tests, common_steps, encode_ascii, le-ltb, lt-ltb, high-other)
-
-characters-other : (cs : List ℕ) → list_all (λ c. is_mark c || is_whitespace c) cs ≡ true → NoPlus (encode_utf8_all cs)
-characters-other [] each = refl
-characters-other (c ∷ cs) each = grind (arith, nat_tests, common_steps, and_parts, all-join, bytes-other c, characters-other cs)
-
 marks-other : (mark : List ℕ) → AreMarks mark → NoPlus mark
-marks-other mark h = rw h.1 (characters-other h.0 h.2)
+marks-other mark h = rw h.1 (encoded-all _ is_other (λ n k. grind (arith, nat_tests)) (λ c k e. grind (arith, nat_tests)) h.0 h.2)
 
 -- ---- what stands behind the first `+`
 
@@ -64,17 +52,8 @@ written-spells : (Marks : List ℕ → Type 0) (Number : List ℕ → ℕ → Ty
     → ((m : List ℕ) → Marks m → NoPlus m) → ((x : List ℕ) (n : ℕ) → Number x n → NoPlus x) → (text : List ℕ) (v : VersionValue)
     → IsWritten Marks Number (IsPreRelease loose false fits) text v → Spells (after_first (λ b. b == 43) text) v.build
 written-spells Marks Number loose fits marks numbers text v (written mark x y z pre build w m i j k p q) =
-    let front : NoPlus pre = pre-other loose false fits pre w.pre_release p in
     let dot = behind-front (46 ∷ []) in
-    rw (
-      behind-front mark _ (marks mark m),
-      behind-front x _ (numbers x w.major i),
-      dot _ refl,
-      behind-front y _ (numbers y w.minor j),
-      dot _ refl,
-      behind-front z _ (numbers z w.patch k),
-      behind-front pre _ front,
-    ) (build-spells build w.build q)
+    grind (arith, behind-front, pre-other, marks, numbers, build-spells)
 
 -- ---- whole texts
 

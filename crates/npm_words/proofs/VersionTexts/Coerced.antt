@@ -4,14 +4,14 @@ use Rattle.npm_words.proofs.Common.{None, Option, Some, VersionValue, [], ap, ap
 use Rattle.npm_words.proofs.Common.{cases_lt, common_steps, drop, drop-append-add, drop_at, ends, eqb-true, false, get_or, if◌then◌else◌, inl, inr}
 use Rattle.npm_words.proofs.Common.{is_ascii_digit, length, length-append, length-prefix_len, length-take-le, list_all, listed, nat_le, nat_tests}
 use Rattle.npm_words.proofs.Common.{number_front, number_with, option_map, prefix_len, refl, same_Some, subst, sym, take, take-append-drop, take_at}
-use Rattle.npm_words.proofs.Common.{take_rest, true, tuple_len, tuple_release, ℕ, ◌++◌, ◌+◌}
-use Rattle.npm_words.proofs.{Common.{◌-◌, ◌<◌, ◌==◌, ◌>>?◌, ◌∙◌, ◌∷◌, ◌≡◌, ◌≤◌}, Grammar.{Characters.last-byte, PartialLaw.digits-of}}
-use Rattle.npm_words.proofs.{Grammar.VersionLaw.{padded-same, strict-read}, VersionTexts.Lists.{marked-found, marked-read}}
-use Rattle.npm_words.specs.Coerced.{IsChosenFrom, IsCoerced, IsContinuedIn, IsMarkedList, IsNumberIn, IsRelease, absent, marked, one, three, two}
-use Rattle.npm_words.specs.{Coerced.unmarked, Internal.Tuples.{BeginsAfter, IsChosenPlace, absent_len, build_len}}
-use Rattle.npm_words.specs.Internal.Tuples.{dotted_len, end_at, marked_len, pre_len, qualified, run_len, tuple_len_at, version_front}
-use Rattle.semver_core.proofs.{Reading.Numbers.{digits-taken, number-is, number-read, run-ends}, Text.Pieces.rest_at}
-use Rattle.std.{proofs.{Math.Seq.{drop-append_seam, take-append_seam}, lemmas.List.Sums.sum_by-append}, specs.List.count_by}
+use Rattle.npm_words.proofs.Common.{take_rest, true, tuple_len, tuple_release, ℕ, ◌++◌, ◌+◌, ◌-◌, ◌<◌, ◌==◌, ◌>>?◌, ◌∙◌, ◌∷◌, ◌≡◌, ◌≤◌}
+use Rattle.npm_words.proofs.Grammar.{Characters.last-byte, PartialLaw.prefix-of, VersionLaw.{padded-same, strict-read}}
+use Rattle.npm_words.{proofs.VersionTexts.Lists.{marked-found, marked-read}, specs.Coerced.{IsChosenFrom, IsCoerced, IsContinuedIn, IsMarkedList}}
+use Rattle.npm_words.specs.{Coerced.{IsNumberIn, IsRelease, absent, marked, one, three, two, unmarked}, Internal.Tuples.{BeginsAfter, IsChosenPlace}}
+use Rattle.npm_words.specs.Internal.Tuples.{absent_len, build_len, dotted_len, end_at, marked_len, pre_len, qualified, run_len, tuple_len_at}
+use Rattle.{npm_words.specs.Internal.Tuples.version_front, semver_core.proofs.Reading.Numbers.{digits-taken, number-is, number-read, run-ends}}
+use Rattle.{semver_core.proofs.Text.Pieces.rest_at, std.proofs.{Math.Seq.{drop-append_seam, take-append_seam}, lemmas.List.Sums.sum_by-append}}
+use Rattle.std.specs.List.{count_by}
 use Rattle.npm_words.specs.Coerced as Npm
 
 -- ---- runs
@@ -27,7 +27,7 @@ record RunAt (text : List ℕ) : Type 0 where
 run-at : (text : List ℕ) → 0 < run_len text → RunAt text
 run-at text some =
     let n = prefix_len is_ascii_digit text in
-    let is : IsRun (take n text) = grind (arith, nat_tests, common_steps, length-prefix_len, digits-of) in
+    let is : IsRun (take n text) = grind (arith, nat_tests, common_steps, length-prefix_len, prefix-of is_ascii_digit) in
     record { run = take n text; rest = drop n text; split = sym (take-append-drop n text); is = is; ended = run-ends text }
 
 run-long : (a z : List ℕ) → IsRun a → begins is_ascii_digit z ≡ false → run_len (a ++ z) ≡ length a
@@ -100,8 +100,7 @@ pub ruleset last_places = (last_before, take_rest)
 -- no dot begins a list with its mark
 unmarked-dot : (included strict : Bool) (mark : ℕ) (p more : List ℕ) (l : List Id) → (mark == 46) ≡ false
     → IsMarkedList included strict mark p more l → 0 < dotted_len (p ++ more) → p ≡ []
-unmarked-dot included strict mark p more l other (unmarked rest h) dot = refl
-unmarked-dot included strict mark p more l other (marked t rest inc all stop) dot = absurd (omega (arith, rw other at dot))
+unmarked-dot included strict mark p more l other h dot = grind (arith, nat_tests)
 
 module _ {included : Bool} {text x y z : List ℕ} (is : IsContinuedIn included text x y z) where
   abbrev behind : List ℕ
@@ -200,9 +199,6 @@ Chosen = Bool → List ℕ → List ℕ → List ℕ → List ℕ → Type 0
 abbrev pub Chooses : Chosen → Bool → List ℕ → ℕ → Type 0
 Chooses C included text at = (p : Place included text at) × C included text p.front p.whole p.back
 
-pub last_begin : (included : Bool) (text : List ℕ) → IsLastBefore included text 0 0 0
-last_begin included text = grind (arith, nat_tests, common_steps)
-
 pub chosen : (included rtl : Bool) (text : List ℕ) (at : ℕ) → IsChosenPlace included rtl text at → Chooses (IsChosenFrom rtl) included text at
 chosen included false text at h = let p = place included text at h.inside h.here in (
   p,
@@ -297,8 +293,7 @@ module _ {included : Bool} {text x y z : List ℕ} (is : IsContinuedIn included 
 
 mapped : (f : VersionValue → VersionValue) (o : Option VersionValue) (v : VersionValue) → option_map f o ≡ Some v
     → (r : VersionValue) × (o ≡ Some r) × (v ≡ f r)
-mapped f None v e = cc e
-mapped f (Some r) v e = (r, refl, sym (same_Some _ _ e))
+mapped f o v e = grind arith
 
 -- all that is chosen begins at one place, and reaches as far as anything there
 pub record IsSettled (C : Chosen) : Type 0 where

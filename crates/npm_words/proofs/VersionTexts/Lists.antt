@@ -2,20 +2,15 @@
 use Rattle.npm_words.proofs.Common.{Bool, Id, List, [], all_weaker, and-true, and_parts, ap, arith, begins, begins_identifier, begins_padded}
 use Rattle.npm_words.proofs.Common.{cases_Bool, drop, eqb-true, false, get_or, has_leading_zero, identifier_of, inl, inr, is_ascii_digit}
 use Rattle.npm_words.proofs.Common.{is_identifier, is_identifier_char, length, length-drop, list_all, listed, map, nat_tests, not, onto_first}
-use Rattle.npm_words.proofs.Common.{or_parts, pieces, prefix_len, refl, suc, sym, take, take_rest, take_while, true, zero, ℕ, ◌&&◌, ◌++◌}
-use Rattle.npm_words.{proofs.{Common.{◌+◌, ◌-◌, ◌<◌, ◌==◌, ◌∷◌, ◌≡◌, ◌≤◌}, Grammar.PartialLaw.prefix-all}, specs.Coerced.IsMarkedList}
+use Rattle.npm_words.proofs.Common.{or_parts, pieces, prefix_len, refl, suc, sym, take, take_rest, take_while, true, zero, ℕ, ◌&&◌, ◌++◌, ◌+◌, ◌-◌}
+use Rattle.npm_words.{proofs.{Common.{◌<◌, ◌==◌, ◌∙◌, ◌∷◌, ◌≡◌, ◌≤◌}, Grammar.Runs.{run-behind, while-on}}, specs.Coerced.IsMarkedList}
 use Rattle.npm_words.specs.{Coerced.{begins_identifier_in, goes_on_in, is_identifier_in, marked, unmarked}, Internal.Tuples.{IsStretch, list_len_in}}
 use Rattle.{npm_words.specs.Internal.Tuples.marked_len, semver_core.proofs.Reading.{IdentifierLists.written-spelled, Qualifiers.byte-begins}}
-use Rattle.{semver_core.{proofs.Text.Ends.{is_spelled, nothing_listed, nothing_spelled}, specs.Text.Identifiers.is_listed}, std.proofs.Common.add-one}
-use Rattle.std.proofs.{Math.Seq.drop-cons, lemmas.List.{Splits.length-slice_split, drop-drop, drop_all}}
+use Rattle.semver_core.proofs.Text.{Ends.{is_spelled, nothing_listed, nothing_spelled}, Runs.{drop_one, prefix_each, take_one}}
+use Rattle.{semver_core.specs.Text.Identifiers.is_listed, std.proofs.{Common.add-one, Math.Seq.drop-cons, lemmas.List.Splits.length-slice_split}}
+use Rattle.std.proofs.lemmas.List.{drop-drop, drop_all}
 
 -- ---- an identifier at the front
-
-while-on : (p : ℕ → Bool) (c : ℕ) (t : List ℕ) → p c ≡ true → take_while p (c ∷ t) ≡ c ∷ take_while p t
-while-on p c t h = let e : 1 + prefix_len p t ≡ suc (prefix_len p t) = omega arith in rw (h, e) refl
-
-behind-on : (p : ℕ → Bool) (c : ℕ) (t : List ℕ) → p c ≡ true → drop (prefix_len p (c ∷ t)) (c ∷ t) ≡ drop (prefix_len p t) t
-behind-on p c t h = let e : 1 + prefix_len p t ≡ suc (prefix_len p t) = omega arith in rw (h, e) refl
 
 while-off : (p : ℕ → Bool) (t : List ℕ) → begins p t ≡ false → take_while p t ≡ []
 while-off p t h = grind arith
@@ -23,11 +18,11 @@ while-off p t h = grind arith
 -- what is digits alone goes on, behind these, with nothing
 digits-alone : (t : List ℕ) → list_all is_ascii_digit (take_while is_identifier_char t) ≡ not (begins_identifier (drop (prefix_len is_ascii_digit t) t))
 digits-alone [] = refl
-digits-alone (c ∷ t) = grind (arith, nat_tests, while-on is_identifier_char c t, behind-on is_ascii_digit c t, digits-alone t)
+digits-alone (c ∷ t) = grind (arith, nat_tests, while-on is_identifier_char c t, run-behind is_ascii_digit (c ∷ []) t, digits-alone t)
 
 is-id : (t : List ℕ) → is_identifier (take_while is_identifier_char t) ≡ begins_identifier t
 is-id [] = refl
-is-id (c ∷ t) = grind (arith, nat_tests, while-on is_identifier_char c t, prefix-all is_identifier_char t)
+is-id (c ∷ t) = grind (arith, nat_tests, while-on is_identifier_char c t, prefix_each is_identifier_char t)
 
 -- a leading zero, once all are digits
 zero-while : (t : List ℕ) → list_all is_ascii_digit (take_while is_identifier_char t) ≡ true
@@ -93,10 +88,6 @@ taken strict (c ∷ t) = elim (cases_Bool (goes_on_in strict (c ∷ t))) [
       rw (more, e) (grind (arith, nat_tests, eqb-true, taken strict t, onto, while-on is_identifier_char c t, all-pieces))
 ]
 
-list-taken : (strict : Bool) (t : List ℕ) → begins_identifier_in strict t ≡ true
-    → list_all (is_identifier_in strict) (pieces (take (list_len_in strict t) t)) ≡ true
-list-taken strict t h = let r = taken strict t in all-pieces (is_identifier_in strict) (pieces (take (list_len_in strict t) t)) (rw r.0 h) r.1
-
 list-ended : (strict : Bool) (t : List ℕ) → goes_on_in strict (drop (list_len_in strict t) t) ≡ false
 unfolding list_len_in
 list-ended strict [] = refl
@@ -155,12 +146,12 @@ marked-found included strict mark text =
           let n = list_len_in strict y in
           let two = and_parts (included && begins (λ c. c == mark) text) (begins_identifier_in strict y) some in
           let one = and_parts included (begins (λ c. c == mark) text) two.0 in
-          let all = list-taken strict y two.1 in
+          let r = taken strict y in
+          let all = all-pieces (is_identifier_in strict) (pieces (take n y)) (rw r.0 two.1) r.1 in
           let runs = plain-ids strict (pieces (take n y)) all in
           let whole = byte-begins mark text one.1 in
-          let e : 1 + n ≡ suc n = omega arith in
-          let taken : take (1 + n) text ≡ mark ∷ take n y = rw e (ap (λ (t : List ℕ). take (suc n) t) whole) in
-          let left : drop (1 + n) text ≡ drop n y = rw e (ap (λ (t : List ℕ). drop (suc n) t) whole) in
+          let taken = ap (λ (t : List ℕ). take (1 + n) t) whole ∙ take_one n mark y in
+          let left = ap (λ (t : List ℕ). drop (1 + n) t) whole ∙ drop_one n mark y in
           let spelled = written-spelled (take n y) (map identifier_of (pieces (take n y))) (record { runs = runs; spelled = refl }) in
           rw (some, taken, left, spelled) (marked (take n y) (drop n y) one.0 all (list-ended strict y), is_spelled (take n y) runs)
     ]
@@ -173,10 +164,6 @@ marked-read included strict mark p more l (marked t rest inc all stop) =
       grind (arith, nat_tests, is, are-read strict t rest is.1 is.2 stop),
       written-spelled t (map identifier_of (pieces t)) (record { runs = plain-ids strict (pieces t) all; spelled = refl }),
     )
-
-pub marked_listed : (included strict : Bool) (mark : ℕ) (text : List ℕ) (len : ℕ) → len ≡ marked_len included strict mark text
-    → is_listed (drop 1 (take len text)) ≡ true
-marked_listed included strict mark text len e = rw e (marked-found included strict mark text).1
 
 -- ---- a stretch
 

@@ -1,13 +1,13 @@
 -- Version texts, strict or loose: the function that reads them finds exactly what the statement has.
 use Rattle.npm_words.proofs.Common.{AreMarks, Bool, IsClean, IsNumber, IsPieceAt, IsStrictBuild, IsStrictNumber, IsTrim, IsUtf8, IsVersionText}
 use Rattle.npm_words.proofs.Common.{IsWholeNumber, List, MAX_LENGTH, NoPieceAt, NoValue, None, Some, VersionValue, [], after_byte, and_parts, ap}
-use Rattle.npm_words.proofs.Common.{append-nil, arith, begins, begins_byte, bind_some, cond_some, build_front, cases_Bool, chars, common_steps, drop, drop_at}
-use Rattle.npm_words.proofs.Common.{encode_utf8_all, false, inl, inr, is_ascii_digit, is_empty, is_mark, length, list_all, middle_is_trim, nat_tests}
-use Rattle.npm_words.proofs.Common.{number_front, number_of, number_with, or_right, patch_front, pre_front, prefix_len, qualified_version, refl}
-use Rattle.npm_words.proofs.Common.{same_Some, subst, sym, take, take-append-drop, take_at, take_rest, true, whole_version, ℕ, ◌&&◌, ◌++◌, ◌-◌, ◌<◌}
-use Rattle.npm_words.proofs.{Common.{◌>>?◌, ◌∙◌, ◌∷◌, ◌≡◌, ◌≤◌, ◌⊎◌}, Grammar.{Hyphens.{ends-found, ends-read}, PartialLaw.{digits-of, patch-exact}}}
-use Rattle.npm_words.proofs.Grammar.VersionLaw.{At, Follows, build-ends, build-taken, ended-found, pre-follows, pre-found, pre-taken}
-use Rattle.npm_words.{proofs.Grammar.VersionLaw.{strict-found, strict-read}, specs.Grammar.{IsPreRelease, IsWritten, written}}
+use Rattle.npm_words.proofs.Common.{append-nil, arith, begins, begins_byte, bind_some, build_front, cases_Bool, chars, common_steps, cond_some, drop}
+use Rattle.npm_words.proofs.Common.{drop_at, encode_utf8_all, false, inl, inr, is_ascii_digit, is_empty, is_mark, length, list_all, middle_is_trim}
+use Rattle.npm_words.proofs.Common.{nat_tests, number_front, number_of, number_with, or_right, patch_front, pre_front, prefix_len, qualified_version}
+use Rattle.npm_words.proofs.Common.{refl, same_Some, subst, sym, take, take-append-drop, take_at, take_rest, true, whole_version, ℕ, ◌&&◌, ◌++◌, ◌-◌}
+use Rattle.npm_words.proofs.{Common.{◌<◌, ◌>>?◌, ◌∙◌, ◌∷◌, ◌≡◌, ◌≤◌, ◌⊎◌}, Grammar.{Hyphens.{ends-found, ends-read}, PartialLaw.patch-exact}}
+use Rattle.npm_words.proofs.Grammar.{PartialLaw.prefix-of, VersionLaw.{At, Follows, build-ends, build-taken, ended-found, pre-follows, pre-found}}
+use Rattle.npm_words.{proofs.Grammar.VersionLaw.{pre-taken, strict-found, strict-read}, specs.Grammar.{IsPreRelease, IsWritten, written}}
 use Rattle.npm_words.specs.{Internal.Versions.{fits, patch_len, unmarked}, VersionText.IsVersionTextIn}
 use Rattle.semver_core.proofs.Reading.{Boundaries.byte-is, Bytes.{component-solid, solid-dark}, Numbers.{digits-taken, front_none, front_some}}
 use Rattle.semver_core.proofs.Reading.Numbers.{number-found, number-is, number-of, number-read}
@@ -15,7 +15,7 @@ use Rattle.semver_core.proofs.Reading.Numbers.{number-found, number-is, number-o
 -- ---- the patch number that the code finds
 
 patch-digits : (text : List ℕ) → list_all is_ascii_digit (take (patch_len text) text) ≡ true
-patch-digits text = digits-of (patch_len text) text (grind (arith, nat_tests, common_steps))
+patch-digits text = prefix-of is_ascii_digit (patch_len text) text (grind (arith, nat_tests, common_steps))
 
 -- a number at the front of digits alone is that of all of them
 digits-front : (limit : ℕ) (text : List ℕ) → list_all is_ascii_digit text ≡ true

@@ -1,9 +1,9 @@
-use Rattle.npm_words.proofs.{Common.{arith, false, true}, VersionTexts.{Coerced.last_begin, Lists.stretch_none}}
+use Rattle.npm_words.proofs.{Common.{arith, common_steps, false, nat_tests, true}, VersionTexts.Lists.stretch_none}
 use Rattle.npm_words.proofs.coerced.last_place.Goals as goal
 
 pub places-init : goal.places-init
 places-init c = record {
-  last = last_begin c.args.included c.args.text.now;
+  last = grind (arith, nat_tests, common_steps);
   pre_releases = stretch_none true c.args.text.now;
   builds = stretch_none false c.args.text.now;
 }

@@ -1,4 +1,5 @@
-use Rattle.{npm_words.proofs.{Common.{[], arith, take_rest, ◌≡◌}, VersionTexts.Lists.{marked_listed, stretch_none}}, semver_core.proofs.Text.Ends.nothing_listed}
+use Rattle.npm_words.{proofs.{Common.{[], arith, take_rest, ◌≡◌}, VersionTexts.Lists.{marked-found, stretch_none}}, specs.Internal.Tuples.marked_len}
+use Rattle.semver_core.proofs.Text.Ends.{nothing_listed}
 use Rattle.npm_words.proofs.coerced.marked_list.Goals as goal
 
 pub marked_end-len-requires-clause-known : goal.marked_end-len-requires-clause-known
@@ -10,4 +11,5 @@ returns-in-empty-clause-listed c = let none : c.split_at.result.0.now ≡ [] = g
 pub returns-in-len1-up-clause-listed : goal.returns-in-len1-up-clause-listed
 returns-in-len1-up-clause-listed c =
     rw (take_rest c.split_at.result.0.now 1, c.split_at.ensures.front)
-    (marked_listed c.args.included c.args.strict c.args.mark c.args.text.now c.marked_end-len.result (omega (arith, c.marked_end-len.ensures.end)))
+    (let len : c.marked_end-len.result ≡ marked_len c.args.included c.args.strict c.args.mark c.args.text.now = omega (arith, c.marked_end-len.ensures.end) in
+    rw len (marked-found c.args.included c.args.strict c.args.mark c.args.text.now).1)

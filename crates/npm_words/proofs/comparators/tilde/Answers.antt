@@ -1,5 +1,5 @@
-use Rattle.npm_words.proofs.Common.{ap, arith, false, from, npm_partial_view, within, ◌∙◌}
-use Rattle.npm_words.proofs.Grammar.{Printed.from_valid, Rows.{noted_valid, part_tilde}}
+use Rattle.npm_words.proofs.{Common.{ap, arith, false, from, npm_partial_view, within, ◌∙◌}, Grammar.{Printed.from_valid, Rows.noted_valid}}
+use Rattle.npm_words.proofs.Grammar.Rows.{part_tilde}
 use Rattle.npm_words.proofs.comparators.tilde.Goals as goal
 
 pub returns-in-Major : goal.returns-in-Major

@@ -1,5 +1,5 @@
-use Rattle.npm_words.proofs.{Common.{MAX_SAFE_INTEGER, arith, None, next, rules, sym, ◌∙◌, ◌≡◌}, FlawPlaces.Stops.{passed_end, passed_more, passed_none}}
-use Rattle.npm_words.proofs.FlawPlaces.Stops.{passed_stop, passed_whole}
+use Rattle.npm_words.proofs.{Common.{MAX_SAFE_INTEGER, None, arith, next, rules, sym, ◌∙◌, ◌≡◌}, FlawPlaces.Stops.{passed_end, passed_more}}
+use Rattle.npm_words.proofs.FlawPlaces.Stops.{passed_none, passed_stop, passed_whole}
 use Rattle.npm_words.proofs.flaws.stop.Goals as goal
 
 pub letters-init : goal.letters-init

@@ -1,5 +1,4 @@
-use Rattle.npm_words.proofs.Common.{ap, arith, length}
-use Rattle.semver_core.proofs.Reading.Boundaries.{boundary-le}
+use Rattle.{npm_words.proofs.Common.{ap, arith, length}, semver_core.proofs.Reading.Boundaries.boundary-le}
 use Rattle.npm_words.proofs.hyphens.end_texts.Goals as goal
 
 pub slice_bounds-result-count : goal.slice_bounds-result-count

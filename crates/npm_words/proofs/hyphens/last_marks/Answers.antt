@@ -1,6 +1,5 @@
 use Rattle.npm_words.proofs.Common.{ap, arith, drop, is_mark, length, nat_tests, take_rest, ℕ, ◌-◌, ◌∙◌, ◌≡◌}
-use Rattle.std.proofs.lemmas.List.Sums.{suffix_len_is}
-use Rattle.std.specs.List.{suffix_len}
+use Rattle.std.{proofs.lemmas.List.Sums.suffix_len_is, specs.List.suffix_len}
 use Rattle.npm_words.proofs.hyphens.last_marks.Goals as goal
 
 pub returns-clause-value : goal.returns-clause-value

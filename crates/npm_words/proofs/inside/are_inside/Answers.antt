@@ -1,5 +1,5 @@
 use Rattle.npm_words.proofs.{Common.{[], rules, sym, tests, ◌∙◌, ◌∷◌}, Grammar.Inside.{inside-goes, inside-less, inside-stops, place_byte}}
-use Rattle.{npm_words.specs.Malformed.begins_place, std.proofs.lemmas.Iterator.{YieldsList-from_slice, Search.position_from_yields_List}}
+use Rattle.{npm_words.specs.Malformed.begins_place, std.proofs.lemmas.Iterator.{Search.position_from_yields_List, YieldsList-from_slice}}
 use Rattle.npm_words.proofs.inside.are_inside.Goals as goal
 
 pub partials-smaller : goal.partials-smaller

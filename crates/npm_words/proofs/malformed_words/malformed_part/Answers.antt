@@ -1,5 +1,5 @@
-use Rattle.{npm_words.proofs.Common.{[], ap, arith, length}, semver_core.proofs.Reading.Boundaries.{boundary-le, first-is}}
-use Rattle.npm_words.specs.MalformedEnds.{a_word, an_end}
+use Rattle.npm_words.{proofs.Common.{[], ap, arith, length}, specs.MalformedEnds.{a_word, an_end}}
+use Rattle.semver_core.proofs.Reading.Boundaries.{boundary-le, first-is}
 use Rattle.npm_words.proofs.malformed_words.malformed_part.Goals as goal
 
 pub overflow_sub-result-in-None : goal.overflow_sub-result-in-None

@@ -1,6 +1,6 @@
-use Rattle.npm_words.proofs.Common.{List, arith, ap, common_steps, drop, length, length-prefix_len, marks_len, nat_tests, not, prefix_len, rules, take, take_rest, tests, ℕ, ◌-◌, ◌==◌, ◌∙◌, ◌≡◌}
-use Rattle.std.proofs.lemmas.Iterator.{Consumers.count_from_yields_List, Search.YieldsList-from_take_while, YieldsList-from_slice}
-use Rattle.std.proofs.{iter.Yields.fronts, lemmas.Iterator.YieldsList}
+use Rattle.npm_words.proofs.Common.{List, ap, arith, common_steps, drop, length, length-prefix_len, marks_len, nat_tests, not, prefix_len, rules}
+use Rattle.{npm_words.proofs.Common.{take, take_rest, tests, ℕ, ◌-◌, ◌==◌, ◌∙◌, ◌≡◌}, std.proofs.iter.Yields.fronts}
+use Rattle.std.proofs.lemmas.Iterator.{Consumers.count_from_yields_List, Search.YieldsList-from_take_while, YieldsList, YieldsList-from_slice}
 use Rattle.std.specs.Iterator.Adapters.{take_while_source}
 use Rattle.npm_words.proofs.words.is_short.Goals as goal
 

@@ -1,8 +1,9 @@
-use Rattle.npm_words.proofs.{Common.{None, Some, arith, common_steps, nat_tests, npm_partial_view}, Grammar.{AlternativeLaw.{behind-le, marks_all}, Words.word_here}}
+use Rattle.npm_words.proofs.{Common.{None, Some, arith, common_steps, is_mark, nat_tests, npm_partial_view}, Grammar.AlternativeLaw.behind-le}
+use Rattle.{npm_words.proofs.Grammar.Words.word_here, semver_core.proofs.Text.Runs.prefix_each}
 use Rattle.npm_words.proofs.words.word_front.Goals as goal
 
 pub are_marks-requires : goal.are_marks-requires
-are_marks-requires c = marks_all _ _ c.marks_len-marks.ensures.value
+are_marks-requires c = grind (arith, prefix_each is_mark)
 
 pub slice_bounds-text-count : goal.slice_bounds-text-count
 slice_bounds-text-count c = behind-le _ _ _ _ _ c.in_ok-partial.ensures

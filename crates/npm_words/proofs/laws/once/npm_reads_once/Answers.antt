@@ -1,5 +1,4 @@
-use Rattle.npm_words.proofs.{Common.{false, true}, Grammar.Printed.reread, VersionTexts.Coerced.{coerced-once, settled}}
-use Rattle.npm_words.proofs.VersionTexts.Versions.{version_once}
+use Rattle.npm_words.proofs.{Common.{false, true}, Grammar.Printed.reread, VersionTexts.{Coerced.{coerced-once, settled}, Versions.version_once}}
 use Rattle.npm_words.proofs.Grammar.AlternativeLaw as law
 use Rattle.npm_words.proofs.laws.once.npm_reads_once.Goals as goal
 
