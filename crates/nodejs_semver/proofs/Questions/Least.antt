@@ -121,15 +121,16 @@ begins_release : (g : Cut VersionValue) (v : VersionValue) → is_release v ≡ 
     → (P : VersionValue → Bool) → ((x : VersionValue) → Begins g v x → P x ≡ true) → list_any P (firsts g) ≡ true
 begins_release Start v k h P f = grind (arith, zero_first, empty_is, kind_of_release)
 begins_release End v k h P f = cc
-begins_release (Beside w s) v k h P f = cond_both (is_release w) (release_after w s ∷ []) (after_cut w s ∷ bare_release w ∷ []) (λ l. list_any P l ≡ true)
-    (λ r. or_left (P (release_after w s)) false (f (release_after w s) (by_side s h r)))
-    (λ r. or_right (P (after_cut w s)) _ (or_left (P (bare_release w)) false (f (bare_release w) (record {
+begins_release (Beside w s) v k h P f = grind (arith, by_side s h, by_pre, f (release_after w s), f (bare_release w))
+  where
+    by_pre : is_release w ≡ false → Begins (Beside w s) v (bare_release w)
+    by_pre r = record {
       past = past_less w (bare_release w) s (release_above w r);
       below = upto_by_both (bare_release w) v (triple_upto w v (past_order w v s h))
           (ap (λ l. is_gt (pre_cmp [] l)) (empty_is v.pre_release k));
       alike = kind_of_release (bare_release w) v refl k;
-    }))))
-  where
+    }
+
     by_side : (s : Bool) → is_past precedence (Beside w s) v ≡ true → is_release w ≡ true → Begins (Beside w s) v (release_after w s)
     by_side Near h r = near_begins w v h (kind_of_release (bare w) v r k)
     by_side Far h r = record {
@@ -270,10 +271,6 @@ candidate ks kss ls v h = any_flat found firsts (Start ∷ marks) ∙ greatest v
     marks : List (Cut VersionValue)
     marks = flat_map list_marks (ks ∷ kss) ++ flat_map removed_marks ls
 
-    among_too : (r a b q c d : Bool) → (r ≡ true → q ≡ true) → (a ≡ true → c ≡ true) → (d ≡ true → b ≡ true)
-        → (r && (a && not b)) ≡ true → (q && (c && not d)) ≡ true
-    among_too r a b q c d e f g h = grind arith
-
     at : (g : Cut VersionValue) → is_past precedence g v ≡ true → list_all (under v g) (Start ∷ marks) ≡ true → list_any found (firsts g) ≡ true
     at g past top =
         let tops = and_parts (list_all (under v g) (flat_map list_marks (ks ∷ kss))) _
@@ -282,11 +279,14 @@ candidate ks kss ls v h = any_flat found firsts (Start ∷ marks) ∙ greatest v
         let kept = and_parts (list_all (under v g) (list_marks ks)) _
         (sym (list_all-append (under v g) (list_marks ks) (flat_map list_marks kss)) ∙ tops.0) in
         let done : (x : VersionValue) → Begins g v x → found x ≡ true = λ x b.
-        and_from (among ks kss ls x) (is_le (precedence x v))
-        (among_too (all_accept kss v) (accepts ks v false) (accepts ls v false)
-        (all_accept kss x) (accepts ks x false) (accepts ls x false)
-        (all_accepted v x g b kss kept.1) (kept_accept v x g b ks kept.0) (removed_accept v x g b ls tops.1) h)
-        ((tells (precedence x v)).0 ∙ ap not b.below) in
+        grind (
+          arith,
+          all_accepted v x g b kss kept.1,
+          kept_accept v x g b ks kept.0,
+          removed_accept v x g b ls tops.1,
+          tells (precedence x v),
+          b.below,
+        ) in
         elim (cases_Bool (is_release v)) [
           | inl r ↦ begins_release g v r past found done
           | inr r ↦
@@ -341,15 +341,8 @@ module _ (set : VersionValue → Bool) where
 
   reached : (copies : Bool) (best : Option VersionValue) (w : VersionValue) (s : Bool) → is_reached best w ≡ true
       → fold (better_kept copies set) best (firsts (Beside w s)) ≡ best
-  reached copies best w s h = grind (arith, no_better, by_release, by_pre, release_above)
-    where
-      by_release : (s : Bool) → is_le (precedence w (release_after w s)) ≡ true
-      by_release Near = ap is_le (tied_itself precedence_total w)
-      by_release Far = ap is_le (next_patch_above w)
-
-      by_pre : (s : Bool) → is_release w ≡ false → is_le (precedence w (after_cut w s)) ≡ true
-      by_pre Near k = ap is_le (tied_itself precedence_total w)
-      by_pre Far k = ap is_le (next_pre_above w k)
+  reached copies best w s h =
+      grind (arith, no_better, tied_itself precedence_total w, next_patch_above w, next_pre_above w, release_above w)
 
   pub reached_near : (copies : Bool) (best : Option VersionValue) (w : VersionValue) → is_reached best w ≡ true
       → fold (better_kept copies set) best (firsts (Beside w Near)) ≡ best
@@ -373,11 +366,10 @@ pub least_wanted : (kss : List (List (Span VersionValue))) (ls : List (Span Vers
     → IsLeastOf (wanted kss ls) (least_of (wanted kss ls) (candidates kss ls))
 least_wanted [] ls n = absurd (omega arith)
 least_wanted (ks ∷ kss) ls n = subst (λ (set : VersionValue → Bool). IsLeastOf set (least_of set (candidates (ks ∷ kss) ls)))
-    (λ i v. same (all_accept kss v) (accepts ks v false) (accepts ls v false) i)
-    (least_named (among ks kss ls) (candidates (ks ∷ kss) ls) (candidate ks kss ls))
+    (λ i v. same v i) (least_named (among ks kss ls) (candidates (ks ∷ kss) ls) (candidate ks kss ls))
   where
-    same : (q a b : Bool) → (q && (a && not b)) ≡ ((a && q) && not b)
-    same q a b = grind arith
+    same : (v : VersionValue) → among ks kss ls v ≡ wanted (ks ∷ kss) ls v
+    same v = grind arith
 
 -- of no lists it is the least version, and of more the least that all accept and nothing rejects
 pub least_of_none : (lists : List (List (Span VersionValue))) (v : VersionValue) → length lists < 1
@@ -475,10 +467,7 @@ past_lower (After w) = grind (arith, nat_tests, common_steps, past_less, above_p
 least_past : (b : Bound VersionValue) (v : VersionValue) → is_past precedence (lower_cut b) v ≡ true → is_gt (precedence (first_past b) v) ≡ false
 least_past Unbounded v h = le_not_gt _ (first_of_all v)
 least_past (Before w) v h = past_order w v Near h
-least_past (After w) v h = by_kind (is_release w) refl
-  where
-    by_kind : (r : Bool) → is_release w ≡ r → is_gt (precedence (if r then first_pre (patch_after w) else pre_after w) v) ≡ false
-    by_kind r k = grind (arith, le_not_gt, least_after_release, empty_is, far_less, next_pre_least)
+least_past (After w) v h = grind (arith, le_not_gt, least_after_release w v, empty_is w.pre_release, far_less, next_pre_least)
 
 -- the first version past the lower cut of a span that holds v is held as well
 least_in : (s : Span VersionValue) (v : VersionValue) → holds precedence s v ≡ true → is_gt (precedence (first_past s.lower) v) ≡ false

@@ -6,7 +6,7 @@ use Rattle.nodejs_semver.proofs.Common.{beyond, bound_of, candidates, common_ste
 use Rattle.nodejs_semver.proofs.Common.{firsts, flat_map, flat_map-append, fold, fold-append, get_or, get_or-map, holds, inl, inr, is_le, is_lt}
 use Rattle.nodejs_semver.proofs.Common.{is_range_span, least_build, length, length-map, lets_in, list_any, list_any-append, list_marks, map}
 use Rattle.nodejs_semver.proofs.Common.{map-append, nat_tests, not, not_if, option_map, or-false, or_cases, precedence, precedence_total, refl}
-use Rattle.nodejs_semver.proofs.Common.{removed_marks, span_of, spans_of, subst, sym, take, take_next, tells, tied_itself, true, ℕ, ◌&&◌, ◌++◌, ◌+◌}
+use Rattle.nodejs_semver.proofs.Common.{removed_marks, span_of, spans_of, sym, take, take_next, tells, tied_itself, true, ℕ, ◌&&◌, ◌++◌, ◌+◌}
 use Rattle.nodejs_semver.{proofs.{Common.{◌-◌, ◌<◌, ◌^◌, ◌||◌, ◌∙◌, ◌∷◌, ◌≡◌, ◌⊎◌}, Values.map-further}, specs.Internal.Candidates.{EndsAfterPre, Finds}}
 use Rattle.nodejs_semver.specs.Internal.Candidates.{IsLeastBuilt, MayAllocate, StartsWith, first_past, has_build, lesser, zero}
 use Rattle.nodejs_semver.proofs.Common.{Err, Result, build_by, option_and_then}
@@ -53,21 +53,17 @@ find-map : {A B : Type 0} (f : A → B) (p : B → Bool) (xs : List A) → find 
 find-map f p [] = refl
 find-map f p (x ∷ xs) = grind (arith, find-map f p xs)
 
-map-twice : {A B C : Type 0} (f : B → C) (g : A → B) (r : Option A) → option_map (λ a. f (g a)) r ≡ option_map f (option_map g r)
-map-twice f g r = grind arith
-
 pub found_value : {A B C : Type 0} (f : B → C) (g : A → B) (p : C → Bool) (xs : List B) (r : Option A)
     → option_map g r ≡ find (λ x. p (f x)) xs → option_map (λ a. f (g a)) r ≡ find p (map f xs)
-found_value f g p xs r e = map-twice f g r ∙ ap (option_map f) e ∙ sym (find-map f p xs)
+found_value f g p xs r e = grind (arith, find-map f p xs)
 
 find_all : {X : Type 0} (P : X → Type 0) (p : X → Bool) (xs : List X) → All P xs → IfSome (find p xs) P
 find_all P p [] h = tt
-find_all P p (x ∷ xs) h = cond_both (p x) (Some x) (find p xs) (λ o. IfSome o P) (λ _. h 0 x (omega arith)) (λ _. find_all P p xs (All-tail P x xs h))
+find_all P p (x ∷ xs) h = grind (arith, h 0 x, find_all P p xs (All-tail P x xs h))
 
 pub found_raisable : {A : Type 0} (g : A → Span VersionValue) (p : Span VersionValue → Bool) (ss : List (Span VersionValue)) (r : Option A)
     → option_map g r ≡ find p ss → All IsRaisable ss → IfSome r (λ a. Raisable (g a).lower)
-found_raisable g p ss None e h = tt
-found_raisable g p ss (Some a) e h = (subst (λ o. IfSome o IsRaisable) (sym e) (find_all IsRaisable p ss h)).0
+found_raisable g p ss r e h = grind (arith, find_all IsRaisable p ss h)
 
 -- ---- one further span in the search for a least version
 
@@ -203,16 +199,8 @@ held_allocates ks h = grind arith
 abbrev named : VersionValue → Bool
 named w = not (is_release w && is_empty w.build)
 
-passes-weaker : (test other : VersionValue → Bool) (b : Bound VersionValue) → ((w : VersionValue) → test w ≡ true → other w ≡ true)
-    → passes test b ≡ true → passes other b ≡ true
-passes-weaker test other b weaker h = grind (arith, weaker)
-
-has_bound-weaker : (test other : VersionValue → Bool) (s : Span VersionValue) → ((w : VersionValue) → test w ≡ true → other w ≡ true)
-    → has_bound test s ≡ true → has_bound other s ≡ true
-has_bound-weaker test other s weaker h = grind (arith, passes-weaker test other)
-
 let_in_names : (s : Span VersionValue) (v : VersionValue) → lets_in s v ≡ true → is_release v ≡ false → has_bound named s ≡ true
-let_in_names s v h k = has_bound-weaker _ named s (λ w e. grind (arith, e)) (rw k at h)
+let_in_names s v h k = grind arith
 
 pub accepted_names : (ss : List (Span VersionValue)) (v : VersionValue) → accepts ss v false ≡ true → is_release v ≡ false
     → names_identifiers ss ≡ true
@@ -234,7 +222,7 @@ ends_names ss (i, s, within, at, h) =
     list_any_at (has_bound named) ss i s within (grind (arith, at, after_names s.upper h))
 
 built_names : (b : Bound VersionValue) → has_build b ≡ true → passes named b ≡ true
-built_names b h = passes-weaker (λ w. not (is_empty w.build)) named b (λ w e. grind (arith, e)) h
+built_names b h = grind arith
 
 -- the version of the first span that passes a test, where it has build metadata
 pub first_names : (p : Span VersionValue → Bool) (ss : List (Span VersionValue)) (s : Span VersionValue) → find p ss ≡ Some s
