@@ -1,13 +1,11 @@
 -- What holds of spans of versions holds of the spans of their values, where the order of the versions is that of the values.
-use Rattle.nodejs_semver.proofs.Common.{AreTaking, Bool, Bound, List, None, common_steps, nat_tests}
-use Rattle.nodejs_semver.proofs.Common.{Option, Ordering, Some, Span, TakesMemory, VersionValue, [], ap, append-nil}
-use Rattle.nodejs_semver.proofs.Common.{append_assoc, arith, bound_of, codes, cut_cmp, false, flat_map, flat_map-append, flat_map-map}
-use Rattle.nodejs_semver.proofs.Common.{get_or, greater_lower, has_bound, if◌then◌else◌, inl, inr, interval, is_interval}
-use Rattle.nodejs_semver.proofs.Common.{is_some, join_by, left_above, left_below, length, length-map, lesser_upper}
-use Rattle.nodejs_semver.proofs.Common.{list_all, list_all-map, list_any, lower_cut, map, map-append, meet, meets_of, minus, option_map}
-use Rattle.nodejs_semver.proofs.Common.{option_to_list, passes, precedence, range_text}
-use Rattle.nodejs_semver.proofs.Common.{refl, remainder, span_of, span_text, spans_of, sym, take, take_next, true, upper_cut, ℕ, ◌++◌, ◌+◌}
-use Rattle.nodejs_semver.proofs.Common.{is_range_bound, is_range_span, ◌&&◌, ◌<◌, ◌==◌, ◌∙◌, ◌∷◌, ◌≡◌}
+use Rattle.nodejs_semver.proofs.Common.{AreTaking, Bool, Bound, List, None, Option, Ordering, Some, Span, TakesMemory, VersionValue, [], ap}
+use Rattle.nodejs_semver.proofs.Common.{append-nil, append_assoc, arith, bound_of, codes, common_steps, cut_cmp, false, flat_map, flat_map-append}
+use Rattle.nodejs_semver.proofs.Common.{flat_map-map, get_or, greater_lower, has_bound, if◌then◌else◌, inl, inr, interval, is_interval}
+use Rattle.nodejs_semver.proofs.Common.{is_range_bound, is_range_span, is_some, join_by, left_above, left_below, length, length-map, lesser_upper}
+use Rattle.nodejs_semver.proofs.Common.{list_all, list_all-map, list_any, lower_cut, map, map-append, meet, meets_of, minus, nat_tests, option_map}
+use Rattle.nodejs_semver.proofs.Common.{option_to_list, passes, precedence, range_text, refl, remainder, span_of, span_text, spans_of, sym, take}
+use Rattle.nodejs_semver.proofs.Common.{take_next, true, upper_cut, ℕ, ◌&&◌, ◌++◌, ◌+◌, ◌<◌, ◌==◌, ◌∙◌, ◌∷◌, ◌≡◌}
 use Rattle.semver_core.specs.Values.Memory.{takes_memory}
 
 -- versions that are their own values
@@ -46,6 +44,7 @@ some-map f m = grind arith
 list-map : {A B : Type 0} (f : A → B) (m : Option A) → map f (option_to_list m) ≡ option_to_list (option_map f m)
 list-map f m = grind arith
 
+-- what is mapped over a choice, an option, and lists that are joined
 abbrev listed : {A : Type 0} → Option A × Option A → List A
 listed parts = option_to_list parts.0 ++ option_to_list parts.1
 

@@ -1,17 +1,14 @@
 -- What is left of a list is what of each of its spans lies within what is left of the whole line.
-use Rattle.nodejs_semver.proofs.Common.{AllWithin, Bool, Bound, Cut, IsTotalOrder, List, None, Option, Ordering, Some, Span, Start}
-use Rattle.nodejs_semver.proofs.Common.{Unbounded, [], and-false, and_from, and_parts, ap, append-nil, append_assoc, ap₂, arith}
-use Rattle.nodejs_semver.proofs.Common.{below_lesser, below_upto, between, between_from, between_parts, cases_Bool, clip, cut_cmp, drop}
-use Rattle.nodejs_semver.proofs.Common.{false, flat_flat, flat_map, flat_map-append, flat_same, fold-append, get_or, get_or-drop}
-use Rattle.nodejs_semver.proofs.Common.{greater_below, greater_lower, gt_lt, if◌then◌else◌, inl, inr, irreflexive, is_interval, is_lt}
-use Rattle.nodejs_semver.proofs.Common.{is_some, is_some-interval, left_above, left_below, length, length-drop, lesser_upper, list_all, lower_cut, lt}
-use Rattle.nodejs_semver.proofs.Common.{minus, not, not_above, not_below, not_if, one_way, option_to_list, refl, remainder}
-use Rattle.nodejs_semver.proofs.Common.{remainders_by, subst, suc, sym, take, take_all, true, turned_lower, turned_upper, upper_cut}
-use Rattle.nodejs_semver.proofs.Common.{upto_below, zero, ℕ, ◌&&◌, ◌++◌, ◌+◌, ◌<◌, ◌∙◌, ◌∷◌, ◌≡◌, ◌≤◌}
-use Rattle.nodejs_semver.proofs.Common.{Err, IfOk, IsTrue, Result}
-use Rattle.std.specs.{List.Sorted.{IsPartitionedBy, IsPartitionPoint}, Result.{IsOkAnd, MatchResult, OnErr}}
-use Rattle.nodejs_semver.proofs.Dividing.RunLemmas.{greater_assoc, lesser_assoc}
-use Rattle.nodejs_semver.specs.Internal.Along.{IsAlong}
+use Rattle.nodejs_semver.proofs.Common.{AllWithin, Bool, Bound, Cut, Err, IfOk, IsTotalOrder, IsTrue, List, None, Option, Ordering, Result, Some}
+use Rattle.nodejs_semver.proofs.Common.{Span, Start, Unbounded, [], and-false, and_from, and_parts, ap, append-nil, append_assoc, ap₂, arith}
+use Rattle.nodejs_semver.proofs.Common.{below_lesser, below_upto, between, between_from, between_parts, cases_Bool, clip, cut_cmp, drop, false}
+use Rattle.nodejs_semver.proofs.Common.{flat_flat, flat_map, flat_map-append, flat_same, fold-append, get_or, get_or-drop, greater_below}
+use Rattle.nodejs_semver.proofs.Common.{greater_lower, gt_lt, if◌then◌else◌, inl, inr, irreflexive, is_interval, is_lt, is_some, is_some-interval}
+use Rattle.nodejs_semver.proofs.Common.{left_above, left_below, length, length-drop, lesser_upper, list_all, lower_cut, lt, minus, not, not_above}
+use Rattle.nodejs_semver.proofs.Common.{not_below, not_if, one_way, option_to_list, refl, remainder, remainders_by, subst, suc, sym, take, take_all}
+use Rattle.nodejs_semver.proofs.Common.{true, turned_lower, turned_upper, upper_cut, upto_below, zero, ℕ, ◌&&◌, ◌++◌, ◌+◌, ◌<◌, ◌∙◌, ◌∷◌, ◌≡◌, ◌≤◌}
+use Rattle.nodejs_semver.{proofs.Dividing.RunLemmas.{greater_assoc, lesser_assoc}, specs.Internal.Along.IsAlong}
+use Rattle.std.specs.{List.Sorted.{IsPartitionPoint, IsPartitionedBy}, Result.{IsOkAnd, MatchResult, OnErr}}
 
 -- one element or none
 abbrev pick : {A : Type 0} → Bool → A → List A
@@ -152,13 +149,10 @@ module _ {V : Type 0} {R : V → V → Ordering} (o : IsTotalOrder R) where
       (flat_flat (λ s. remainder R s t) (clips cs) ss ∙ flat_same _ (clips (flat_map (λ c. remainder R c t) cs))
       (λ s. clips_remainder s t cs) ss) ∙ minus_clips (flat_map (λ c. remainder R c t) cs) ss ts
 
-  -- an interval lies within the whole line
-  clips_whole : (s : Span V) → is_interval R s ≡ true → clips (whole ∷ []) s ≡ s ∷ []
-  clips_whole s h = grind arith
-
+  -- intervals lie within the whole line
   all_whole : (ss : List (Span V)) → list_all (is_interval R) ss ≡ true → flat_map (clips (whole ∷ [])) ss ≡ ss
   all_whole [] h = refl
-  all_whole (s ∷ ss) h = grind (arith, clips_whole, all_whole ss)
+  all_whole (s ∷ ss) h = grind (arith, all_whole ss)
 
   -- what is left of the line stands in order along it
   along_lower : (a b : Cut V) (cs : List (Span V)) → lt o b a ≡ false → IsAlong R b cs → IsAlong R a cs

@@ -14,14 +14,6 @@ parts-hold : (limit : ℕ) (v : VersionValue) (ps : List (List ℕ))
 parts-hold limit v [] = refl
 parts-hold limit v (p ∷ ps) = grind (arith, list_any-append, runs-hold, precedence_total, parts-hold limit v ps)
 
--- where all of some parts are empty, the first writes every version
-first-empty : (limit : ℕ) (v : VersionValue) (ps : List (List ℕ)) → (ps ≡ [] → ⊥) → list_all is_empty ps ≡ true → list_any (part_writes limit v) ps ≡ true
-first-empty limit v [] some h = absurd (some refl)
-first-empty limit v (p ∷ ps) some h = grind arith
-
--- a text has a part or more
-parts-some : (text : List ℕ) → parts text ≡ [] → ⊥
-parts-some text h = cc (sym (parts-front text) ∙ h)
-
+-- a text has a part or more: where all are empty, the first writes every version
 pub denotes_hold : (limit : ℕ) (text : List ℕ) (v : VersionValue) → list_holds precedence (denotes limit text) v ≡ writes limit text v
-denotes_hold limit text v = grind (arith, first-empty, parts-some, parts-hold)
+denotes_hold limit text v = grind (arith, parts-front text, parts-hold)

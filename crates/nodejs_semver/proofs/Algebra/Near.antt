@@ -1,14 +1,12 @@
 -- Of spans that stand along the line, those that meet another one stand together.
-use Rattle.nodejs_semver.proofs.Common.{AllWithin, Bool, Cut, IsTotalOrder, List, Ordering, Span, Start, [], and_parts, all_weaker, any_under, between_from, gt_lt, is_le, list_all-append, tells, list_any-append, flat_map, flat_map-append, none_of, or_parts, option_to_list, subst, ap, ap₂, append-nil}
-use Rattle.nodejs_semver.proofs.Common.{arith, below_upto, between, cut_cmp, drop, false, get_or, is_interval, is_lt, is_some, is_some-interval, length}
-use Rattle.nodejs_semver.proofs.Common.{list_all, list_any, lower_cut, lt, meet, not, not-true, not_if, refl, suc, sym, take, take-append-drop}
-use Rattle.nodejs_semver.proofs.Common.{true, upper_cut, upto_below, ℕ, ◌++◌, ◌+◌, ◌<◌, ◌||◌, ◌∙◌, ◌∷◌, ◌≡◌}
-use Rattle.nodejs_semver.proofs.Algebra.Differences.{all_rise, falls_short}
-use Rattle.nodejs_semver.proofs.Common.{get_or-drop, length-drop}
-use Rattle.std.proofs.lemmas.List.{Folds.list_any_none, get_or-take, length-take}
-use Rattle.nodejs_semver.specs.Internal.Along.{IsAlong, IsNear}
-use Rattle.nodejs_semver.specs.Words.{covers}
-use Rattle.std.specs.List.Sorted.{IsPartitionedBy, IsPartitionPoint}
+use Rattle.nodejs_semver.proofs.{Algebra.Differences.{all_rise, falls_short}, Common.{AllWithin, Bool, Cut, IsTotalOrder, List, Ordering, Span}}
+use Rattle.nodejs_semver.proofs.Common.{Start, [], all_weaker, and-false, and_parts, any_under, ap, append-nil, ap₂, arith, below_upto, between}
+use Rattle.nodejs_semver.proofs.Common.{between_from, cut_cmp, drop, false, flat_map, flat_map-append, get_or, get_or-drop, gt_lt, is_interval, is_le}
+use Rattle.nodejs_semver.proofs.Common.{is_lt, is_some, is_some-interval, length, length-drop, list_all, list_all-append, list_any, list_any-append}
+use Rattle.nodejs_semver.proofs.Common.{lower_cut, lt, meet, none_of, not, not-true, not_if, option_to_list, or_parts, refl, subst, suc, sym, take}
+use Rattle.nodejs_semver.proofs.Common.{take-append-drop, tells, true, upper_cut, upto_below, ℕ, ◌&&◌, ◌++◌, ◌+◌, ◌<◌, ◌||◌, ◌∙◌, ◌∷◌, ◌≡◌}
+use Rattle.{nodejs_semver.specs.{Internal.Along.{IsAlong, IsNear}, Words.covers}, std.proofs.lemmas.List.{Folds.list_any_none, get_or-take}}
+use Rattle.std.{proofs.lemmas.List.length-take, specs.List.Sorted.{IsPartitionPoint, IsPartitionedBy}}
 
 -- a test that fails from a place on, or up to it
 none_from : {A : Type 0} (p : A → Bool) (xs : List A) (m : ℕ) → AllWithin (λ x. p x ≡ false) xs m (length xs) → list_any p (drop m xs) ≡ false
@@ -22,11 +20,8 @@ module _ {V : Type 0} {R : V → V → Ordering} (o : IsTotalOrder R) where
   meets s t = is_some (meet R s t)
 
   -- what ends not above where s begins does not meet it, nor what begins not below where it ends
-  short_apart : (s t : Span V) → lt o (lower_cut s.lower) (upper_cut t.upper) ≡ false → meets s t ≡ false
-  short_apart s t h = grind (arith, is_some-interval, between)
-
-  past_apart : (s t : Span V) → lt o (lower_cut t.lower) (upper_cut s.upper) ≡ false → meets s t ≡ false
-  past_apart s t h = grind (arith, is_some-interval, between)
+  apart : (s t : Span V) → (lt o (lower_cut s.lower) (upper_cut t.upper) && lt o (lower_cut t.lower) (upper_cut s.upper)) ≡ false → meets s t ≡ false
+  apart s t h = grind (arith, is_some-interval, between)
 
   pub begins_parted : (s : Span V) (a : Cut V) (cs : List (Span V)) → IsAlong R a cs
       → IsPartitionedBy (λ c. is_lt (cut_cmp R (lower_cut c.lower) (upper_cut s.upper))) cs
@@ -61,8 +56,8 @@ module _ {V : Type 0} {R : V → V → Ordering} (o : IsTotalOrder R) where
     front = take p cs;
     back = drop q behind;
     is = sym (ap₂ (λ x y. take p cs ++ (x ++ y)) f refl ∙ ap (λ l. take p cs ++ l) (take-append-drop _ _ ∙ e) ∙ take-append-drop _ _);
-    before = none_upto (meets s) cs p (λ i d a b. short_apart s (get_or cs i d) (not-true _ (h.0 i d a b)));
-    behind = none_from (meets s) behind q (λ i d a b. past_apart s (get_or behind i d) (k.1 i d a b));
+    before = none_upto (meets s) cs p (λ i d a b. apart s (get_or cs i d) (grind (arith, h.0 i d a b)));
+    behind = none_from (meets s) behind q (λ i d a b. apart s (get_or behind i d) (rw (k.1 i d a b) (and-false _)));
   }
 
 upto_not : {V : Type 0} {R : V → V → Ordering} (o : IsTotalOrder R) (a b : Cut V) → is_le (cut_cmp R a b) ≡ true → lt o b a ≡ false

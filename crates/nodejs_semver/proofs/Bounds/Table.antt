@@ -1,11 +1,9 @@
 -- For proofs. The bounds of what is read are such as a range may have.
-use Rattle.nodejs_semver.proofs.Common.{nat_tests, common_steps, AllByRecursion, Bool, Bound, List, Run, Span, VersionValue, []}
-use Rattle.nodejs_semver.proofs.Common.{arith, cond_both, denotes, filter_map, fits, flat_map, if◌then◌else◌, interval_of}
-use Rattle.nodejs_semver.proofs.Common.{is_range_bound, is_range_span, list_all, list_all-append, map, part_denotes}
+use Rattle.nodejs_semver.proofs.{Bounds.{Bounded.word-fine, TableRows.{are_bounds, table-bounded}}, Common.{AllByRecursion, Bool, Bound, List, Run}}
+use Rattle.nodejs_semver.proofs.Common.{Span, VersionValue, [], arith, common_steps, cond_both, denotes, filter_map, fits, flat_map, if◌then◌else◌}
+use Rattle.nodejs_semver.proofs.Common.{interval_of, is_range_bound, is_range_span, list_all, list_all-append, map, nat_tests, part_denotes}
 use Rattle.nodejs_semver.proofs.Common.{precedence, refl, run_items, suc, table, true, words_within, zero, ℕ, ◌+◌, ◌∷◌, ◌≡◌}
-use Rattle.nodejs_semver.specs.Text.Runs.{greatest_lower, least_upper}
-use Rattle.nodejs_semver.proofs.{Bounds.Bounded.{word-fine}, Dividing.RunsDivide.{all-cons, part_divides}}
-use Rattle.nodejs_semver.proofs.Bounds.TableRows.{are_bounds, table-bounded}
+use Rattle.nodejs_semver.{proofs.Dividing.RunsDivide.{all-cons, part_divides}, specs.Text.Runs.{greatest_lower, least_upper}}
 
 words-bounded : (limit n : ℕ) (text : List ℕ) → list_all (are_bounds (limit + 1)) (filter_map (table limit) (words_within limit n text)) ≡ true
 unfolding words_within

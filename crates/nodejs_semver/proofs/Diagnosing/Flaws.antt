@@ -1,19 +1,18 @@
 -- Where the reader of numbers stops, the text is wrong there and has no version.
-use Rattle.nodejs_semver.proofs.Common.{IfSome, IsAfterBlank, IsNumber, IsUtf8, List, None, Option, Some, VersionValue, [], ap}
-use Rattle.nodejs_semver.proofs.Common.{append_assoc, arith, begins, cases_Bool, drop, drop_all, drop_more, encode_utf8, eqb, eqb-true, false}
-use Rattle.nodejs_semver.proofs.Common.{is_ascii_digit, length, length-append, length-drop, list_all, nat_tests, refl, space_len, subst, suc, sym}
-use Rattle.nodejs_semver.proofs.Common.{take, take_rest, true, zero, ℕ, ◌*◌, ◌++◌, ◌+◌, ◌-◌, ◌<◌, ◌==◌, ◌↔◌, ◌∙◌, ◌∷◌, ◌≡◌, ◌≤◌}
-use Rattle.nodejs_semver.proofs.Diagnosing.OneFlaw.{HasTail, Leads, Numbers, Numeral, Place, begins_alike, first_numeral, lead_place}
-use Rattle.nodejs_semver.{proofs.Diagnosing.OneFlaw.{next_place, numeral_begins, numeral_once, only_flaw}, specs.Diagnosis.VersionFlaws.IsExact}
-use Rattle.nodejs_semver.specs.{Diagnosis.VersionFlaws.{IsExpectedAt, IsFlaw, IsFront, IsGreatAt}, Internal.Stuck.{IsWhole, Stuck}}
-use Rattle.nodejs_semver.specs.{Internal.Stuck.{at_digit, at_dot, at_great, begins_dot, later}, declared.diagnosis.versions.VersionFlaw.VersionFlaw}
-use Rattle.semver_core.proofs.{Reading.Boundaries.spaces-gone, Text.{Pieces.digits_grow, Texts.{divided_at, mark_is}}}
-use Rattle.semver_core.{proofs.Text.{Texts.{number_begins}, Trims.after_blank_drops_spaces}, specs.Failures.NoValue}
-use Rattle.semver_core.specs.Internal.{Fronts.{begins_byte, build_front, marked_list, pre_release_front}, Reading.{build_at, list_at, mark_len}}
-use Rattle.semver_core.specs.{Internal.Reading.{or_nothing, pre_release_at, qualified, triple_at}, Text.VersionText.Reads}
-use Rattle.{nodejs_semver.proofs.Diagnosing.OneFlaw.no_flaw, semver_core.specs.Text.Parsing.Parses}
-use Rattle.{semver_core.specs.declared.TheConstants.MAX_LENGTH, std.proofs.{Common.{MatchOption, slice_range}, Math.Seq.{take-add, take-append_seam}}}
-use Rattle.std.{proofs.lemmas.List.{drop-drop, take-append-drop}, specs.{Char.digit_value, Str.Parse.{digits_value, digits_value_after}}}
+use Rattle.nodejs_semver.proofs.Common.{IfSome, IsAfterBlank, IsNumber, IsUtf8, List, None, Option, Some, VersionValue, [], ap, append_assoc, arith}
+use Rattle.nodejs_semver.proofs.Common.{begins, cases_Bool, drop, drop_all, drop_more, encode_utf8, eqb, eqb-true, false, is_ascii_digit, length}
+use Rattle.nodejs_semver.proofs.Common.{length-append, length-drop, list_all, nat_tests, refl, space_len, subst, suc, sym, take, take_rest, true}
+use Rattle.nodejs_semver.proofs.{Common.{zero, ℕ, ◌*◌, ◌++◌, ◌+◌, ◌-◌, ◌<◌, ◌==◌, ◌↔◌, ◌∙◌, ◌∷◌, ◌≡◌, ◌≤◌}, Diagnosing.OneFlaw.{HasTail, Leads}}
+use Rattle.nodejs_semver.proofs.Diagnosing.OneFlaw.{Numbers, Numeral, Place, begins_alike, first_numeral, lead_place, next_place, no_flaw}
+use Rattle.nodejs_semver.{proofs.Diagnosing.OneFlaw.{numeral_begins, numeral_once, only_flaw}, specs.Diagnosis.VersionFlaws.{IsExact, IsExpectedAt}}
+use Rattle.nodejs_semver.specs.{Diagnosis.VersionFlaws.{IsFlaw, IsFront, IsGreatAt}, Internal.Stuck.{IsWhole, Stuck, at_digit, at_dot, at_great}}
+use Rattle.nodejs_semver.specs.{Internal.Stuck.{begins_dot, later}, declared.diagnosis.versions.VersionFlaw.VersionFlaw}
+use Rattle.semver_core.proofs.{Reading.Boundaries.spaces-gone, Text.{Pieces.digits_grow, Texts.{divided_at, mark_is, number_begins}}}
+use Rattle.semver_core.{proofs.Text.Trims.after_blank_drops_spaces, specs.{Failures.NoValue, Internal.Fronts.{begins_byte, build_front, marked_list}}}
+use Rattle.semver_core.specs.Internal.{Fronts.pre_release_front, Reading.{build_at, list_at, mark_len, or_nothing, pre_release_at, qualified}}
+use Rattle.semver_core.specs.{Internal.Reading.triple_at, Text.{Parsing.Parses, VersionText.Reads}, declared.TheConstants.MAX_LENGTH}
+use Rattle.std.proofs.{Common.{MatchOption, slice_range}, Math.Seq.{take-add, take-append_seam}, lemmas.List.{drop-drop, take-append-drop}}
+use Rattle.std.specs.{Char.digit_value, Str.Parse.{digits_value, digits_value_after}}
 use Rattle.nodejs_semver.specs.declared.diagnosis.versions.VersionFlaw.TheVariants as Flaw
 
 -- so many dots and zeros
@@ -283,10 +282,6 @@ whole_left limit text start ignored utf8 a short e none =
     empty : (t : List ℕ) → length t ≡ 0 → t ≡ []
     empty [] h = refl
     empty (b ∷ t) h = absurd (omega (arith, h))
-
-pub left_fits : (limit : ℕ) (text : List ℕ) (start : ℕ) (ignored : List ℕ) → IsLeft limit text start ignored
-    → length ignored ≤ length text
-left_fits limit text start ignored e = omega (arith, ap length e.2, length-drop e.0 text)
 
 pub ignored_left : (limit : ℕ) (text : List ℕ) (start n : ℕ) (ignored : List ℕ) → IsUtf8 text
     → IsAfterBlank text (mark_len text) start → length text ≤ MAX_LENGTH → IsLeft limit text start ignored → 0 < length ignored

@@ -1,21 +1,20 @@
 -- A text has one flaw: behind the place of a flaw no version text goes on.
 use Rattle.nodejs_semver.proofs.Common.{Bool, IfSome, IsBlank, IsCharBoundary-before_ascii, IsNumber, IsUtf8, IsUtf8-drop, IsUtf8-take, IsWholeNumber}
-use Rattle.nodejs_semver.proofs.Common.{List, NoPieceAt, None, Option, Some, VersionValue, [], and_parts, ap, append_assoc, arith, begins}
-use Rattle.nodejs_semver.proofs.Common.{cases_lt, common_steps, drop, drop_at, drop_spaces, drop_spaces-blank, drop_spaces-none, encode_utf8}
-use Rattle.nodejs_semver.proofs.Common.{encode_utf8_all, false, inl, inr, is_ascii_digit, is_whitespace, length, length-append}
-use Rattle.nodejs_semver.proofs.Common.{length-drop, length-take-le, list_all, list_all-append, nat_tests, not, prefix_len, refl}
-use Rattle.nodejs_semver.proofs.Common.{release_value, space_len, subst, suc, sym, take, true, zero, ℕ, ◌++◌, ◌+◌, ◌-◌, ◌<◌, ◌↔◌, ◌∙◌, ◌∷◌}
-use Rattle.nodejs_semver.{proofs.{Common.{◌≡◌, ◌≤◌}, Reading.PartialLaw.{build-solid, digits-solid, pre-solid}}, specs.Diagnosis.VersionFlaws.IsExact}
-use Rattle.nodejs_semver.specs.{Diagnosis.VersionFlaws.{IsExpectedAt, IsFlaw, IsFront, IsGreatAt}, Internal.Stuck.{BeginsGreat, IsNumberAt, IsWhole}}
-use Rattle.nodejs_semver.specs.{Internal.Stuck.{Stuck, at_digit, at_dot, at_great, begins_dot, later}, declared.diagnosis.versions.Expected.Expected}
-use Rattle.nodejs_semver.specs.declared.diagnosis.versions.{Expected.TheVariants.{Digit, Dot}, VersionFlaw.VersionFlaw}
-use Rattle.semver_core.proofs.{Reading.{Bytes.is_solid, Numbers.{digits-taken, run-ends}}, Text.Pieces.{number_complete, some_inside}}
-use Rattle.semver_core.proofs.Text.{SpaceLaw.front_is_first_character, Spaces.after_spaces-end, Texts.{no_mark_at, number_begins, read_at}}
-use Rattle.semver_core.specs.{Internal.Reading.{mark_len, number_at, triple_at}, Text.VersionText.{IsMark, Reads, no_build, no_mark, no_pre_release}}
-use Rattle.std.proofs.{Math.Seq.{drop-append_seam, get_or-append_seam, take-add, take-append_seam}, lemmas.List.{drop-drop, take-append-drop}}
-use Rattle.std.proofs.lemmas.Str.{IsCharBoundary-from_take, IsUtf8-append, IsUtf8-encode, IsUtf8-nil}
-use Rattle.std.{proofs.lemmas.Str.{Ascii.{IsAscii-cons, IsAscii-nil}, IsUtf8-from_ascii}, specs.{Char.IsScalar, Str.{IsAscii, Parse.digits_value}}}
-use Rattle.semver_core.proofs.{Reading.Bytes.ends-append, Text.Runs.prefix_each}
+use Rattle.nodejs_semver.proofs.Common.{List, NoPieceAt, None, Option, Some, VersionValue, [], and_parts, ap, append_assoc, arith, begins, cases_lt}
+use Rattle.nodejs_semver.proofs.Common.{common_steps, drop, drop_at, drop_spaces, drop_spaces-blank, drop_spaces-none, encode_utf8, encode_utf8_all}
+use Rattle.nodejs_semver.proofs.Common.{false, inl, inr, is_ascii_digit, is_whitespace, length, length-append, length-drop, length-take-le, list_all}
+use Rattle.nodejs_semver.proofs.Common.{list_all-append, nat_tests, not, prefix_len, refl, release_value, space_len, subst, suc, sym, take, true}
+use Rattle.nodejs_semver.proofs.{Common.{zero, ℕ, ◌++◌, ◌+◌, ◌-◌, ◌<◌, ◌↔◌, ◌∙◌, ◌∷◌, ◌≡◌, ◌≤◌}, Reading.PartialLaw.{build-solid, digits-solid}}
+use Rattle.nodejs_semver.{proofs.Reading.PartialLaw.pre-solid, specs.Diagnosis.VersionFlaws.{IsExact, IsExpectedAt, IsFlaw, IsFront, IsGreatAt}}
+use Rattle.nodejs_semver.specs.Internal.Stuck.{BeginsGreat, IsNumberAt, IsWhole, Stuck, at_digit, at_dot, at_great, begins_dot, later}
+use Rattle.nodejs_semver.specs.declared.diagnosis.versions.{Expected.{Expected, TheVariants.{Digit, Dot}}, VersionFlaw.VersionFlaw}
+use Rattle.semver_core.proofs.{Reading.{Bytes.{ends-append, is_solid}, Numbers.{digits-taken, run-ends}}, Text.Pieces.{number_complete, some_inside}}
+use Rattle.semver_core.proofs.Text.{Runs.prefix_each, SpaceLaw.front_is_first_character, Spaces.after_spaces-end, Texts.{no_mark_at, number_begins}}
+use Rattle.semver_core.{proofs.Text.Texts.read_at, specs.{Internal.Reading.{mark_len, number_at, triple_at}, Text.VersionText.{IsMark, Reads}}}
+use Rattle.{semver_core.specs.Text.VersionText.{no_build, no_mark, no_pre_release}, std.proofs.Math.Seq.{drop-append_seam, get_or-append_seam}}
+use Rattle.std.proofs.{Math.Seq.{take-add, take-append_seam}, lemmas.{List.{drop-drop, take-append-drop}, Str.Ascii.{IsAscii-cons, IsAscii-nil}}}
+use Rattle.std.{proofs.lemmas.Str.{IsCharBoundary-from_take, IsUtf8-append, IsUtf8-encode, IsUtf8-from_ascii, IsUtf8-nil}, specs.Str.IsAscii}
+use Rattle.std.specs.Str.Parse.{digits_value}
 use lib.Utf8.{low_scalar}
 use Rattle.nodejs_semver.specs.declared.diagnosis.versions.VersionFlaw.TheVariants as Flaw
 
@@ -261,17 +260,11 @@ solid-ascii : (text : List ℕ) → list_all is_solid text ≡ true → IsAscii 
 solid-ascii [] h = IsAscii-nil
 solid-ascii (c ∷ text) h = grind (arith, nat_tests, IsAscii-cons, solid-ascii text)
 
-white-scalar : (c : ℕ) → is_whitespace c ≡ true → IsScalar c
-white-scalar c h = grind (arith, nat_tests, low_scalar)
-
 blank-utf8 : (cs : List ℕ) → list_all is_whitespace cs ≡ true → IsUtf8 (encode_utf8_all cs)
 blank-utf8 [] h = IsUtf8-nil
 blank-utf8 (c ∷ cs) h =
     let each = and_parts (is_whitespace c) (list_all is_whitespace cs) h in
-    IsUtf8-append (encode_utf8 c) (encode_utf8_all cs) (IsUtf8-encode c (white-scalar c each.0)) (blank-utf8 cs each.1)
-
-mark-solid : (mark : List ℕ) → IsMark mark → list_all is_solid mark ≡ true
-mark-solid mark h = grind arith
+    IsUtf8-append (encode_utf8 c) (encode_utf8_all cs) (IsUtf8-encode c (grind (arith, nat_tests, low_scalar))) (blank-utf8 cs each.1)
 
 whole-utf8 : (limit : ℕ) (text : List ℕ) → IsWhole limit text → IsUtf8 text
 whole-utf8 limit text w =
@@ -285,7 +278,8 @@ whole-utf8 limit text w =
     let solid : list_all is_solid numbers ≡ true = grind (arith, list_all-append, w.2) in
     let blank : IsUtf8 r.blank = rw r.blank_is.spelled (blank-utf8 r.blank_is.characters r.blank_is.each) in
     let behind = IsUtf8-append r.blank numbers blank (IsUtf8-from_ascii numbers (solid-ascii numbers solid)) in
-    rw r.divided (IsUtf8-append r.mark _ (IsUtf8-from_ascii r.mark (solid-ascii r.mark (mark-solid r.mark r.mark_is))) behind)
+    let mark : list_all is_solid r.mark ≡ true = grind (arith, r.mark_is) in
+    rw r.divided (IsUtf8-append r.mark _ (IsUtf8-from_ascii r.mark (solid-ascii r.mark mark)) behind)
 
 -- bytes with which a version text goes on, and this character behind them
 abbrev GoesOn : ℕ → List ℕ → ℕ → Type 0
@@ -356,16 +350,13 @@ digit-inside : (limit : ℕ) (text : List ℕ) (at k : ℕ) → (x : IsGreatAt l
     → begins is_ascii_digit (drop (at + k) text) ≡ true
 digit-inside limit text at k x lt = grind (arith, nat_tests, digits-go_on x.great.0 x.great.1 k x.great.3 lt, drop-drop k at text)
 
-last-byte : (text : List ℕ) (p c : ℕ) (rest : List ℕ) → drop p text ≡ c ∷ rest → take (p + 1) text ≡ take p text ++ c ∷ []
-last-byte text p c rest e = take-add p 1 text ∙ ap (λ (t : List ℕ). take p text ++ take 1 t) e
-
 -- a number does not begin behind a digit
 not-begun : (limit : ℕ) (text : List ℕ) (p : ℕ) → IsGreatAt limit text (p + 1) → begins is_ascii_digit (drop p text) ≡ true → ⊥
 not-begun limit text p x h = go (drop p text) refl h
   where
     go : (y : List ℕ) → drop p text ≡ y → begins is_ascii_digit y ≡ true → ⊥
     go [] e h = cc
-    go (c ∷ rest) e h = cc (sym h ∙ x.begun (take p text) c (last-byte text p c rest e))
+    go (c ∷ rest) e h = cc (h, x.begun (take p text) c (rw (take-add p 1 text, e) refl))
 
 -- ---- one flaw
 

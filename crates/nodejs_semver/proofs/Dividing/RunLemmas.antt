@@ -1,13 +1,10 @@
 -- Runs: one word more, what a run holds, and the running intervals.
-use Rattle.nodejs_semver.proofs.Common.{◌≡◌, List, [], ◌∷◌, ◌++◌, refl, sym, ◌∙◌, true, false, Bool, arith, Ordering, ◌&&◌, not}
-use Rattle.nodejs_semver.proofs.Common.{if◌then◌else◌, is_gt, IsTotalOrder, list_all, Cut, Span, cut_cmp, greater_lower, holds}
-use Rattle.nodejs_semver.proofs.Common.{is_past, lesser_upper, lower_cut, upper_cut, Bound, between_parts, cut_total, gt_lt, past_lt, Run}
-use Rattle.nodejs_semver.proofs.Common.{fits, interval_of, run_writes, longer, ap, map, Some, None, Option, meet, runs_of, runs_from}
-use Rattle.nodejs_semver.proofs.Common.{joined, joined_from, inl, inr, cases_Bool, lt_trans}
-use Rattle.std.specs.Cmp.{upto}
-use Rattle.std.proofs.Math.Bool.{not-not}
-use Rattle.semver_core.proofs.CutLaws.{is_past-greater_lower, is_past-lesser_upper}
-use Rattle.nodejs_semver.specs.{Text.Runs.{greatest_lower, least_upper}, Text.WrittenSet.{is_above, is_below}}
+use Rattle.nodejs_semver.proofs.Common.{Bool, Bound, Cut, IsTotalOrder, List, None, Option, Ordering, Run, Some, Span, [], ap, arith, between_parts}
+use Rattle.nodejs_semver.proofs.Common.{cases_Bool, cut_cmp, cut_total, false, fits, greater_lower, gt_lt, holds, if◌then◌else◌, inl, inr}
+use Rattle.nodejs_semver.proofs.Common.{interval_of, is_gt, is_past, joined, joined_from, lesser_upper, list_all, longer, lower_cut, lt_trans, map}
+use Rattle.nodejs_semver.proofs.Common.{meet, not, past_lt, refl, run_writes, runs_from, runs_of, sym, true, upper_cut, ◌&&◌, ◌++◌, ◌∙◌, ◌∷◌, ◌≡◌}
+use Rattle.nodejs_semver.specs.Text.{Runs.{greatest_lower, least_upper}, WrittenSet.{is_above, is_below}}
+use Rattle.{semver_core.proofs.CutLaws.{is_past-greater_lower, is_past-lesser_upper}, std.{proofs.Math.Bool.not-not, specs.Cmp.upto}}
 
 -- the second of two where g says so
 later_assoc : {A : Type 0} (g : A → A → Bool) → ((x y z : A) → g x y ≡ true → g y z ≡ true → g x z ≡ true)

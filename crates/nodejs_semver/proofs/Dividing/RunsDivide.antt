@@ -12,13 +12,10 @@ abbrev pub single : {V : Type 0} → Span V → Run V
 single s = record { first = s; others = [] }
 
 module _ {V : Type 0} (R : V → V → Ordering) where
-  abbrev AreFitting : List (Run V) → Type 0
-  AreFitting runs = AllByRecursion (λ r. fits R r ≡ true) runs
-
   -- the runs that begin with the run under way
   record Divides (r : Run V) (bounds : List (Span V)) (runs : List (Run V)) : Type 0 where
     pub whole : flat_map run_items runs ≡ run_items r ++ bounds
-    pub each : AreFitting runs
+    pub each : AllByRecursion (λ r. fits R r ≡ true) runs
     pub longest : AreLongest R runs
     pub behind : (q : Run V) → fits R (longer q r.first) ≡ false → AreLongest R (q ∷ runs)
 

@@ -10,7 +10,7 @@ use Rattle.std.proofs.lemmas.List.{get_or_default, Sorted.{IsPartitionedBy-leb, 
 use Rattle.std.specs.{List.Sorted.{IsPartitionedBy, IsPartitionPoint}, Ordering.ordering_index}
 use Rattle.std.proofs.lemmas.List.{Folds.list_any_none, get_or-take, get_or_append_left, get_or_push, length-take}
 use Rattle.std.specs.Prelude.{leb}
-use Rattle.nodejs_semver.proofs.Common.{common_steps, Bor, Cut, and-true, passes, tells, None, Option, Some, accepts, not-true, not_if, option_map, option_to_list, better_kept, fold, wanted, all_accept, list_all-append, append-nil, append_assoc, flat_map-append, has_bound, map-append, span_of, spans_of, any_flat, bound_of, cond_both, is_release, lets_in, list_any-map, names, same_triple}
+use Rattle.nodejs_semver.proofs.Common.{common_steps, Bor, Cut, and-true, passes, tells, None, Option, Some, accepts, not-true, not_if, option_map, option_to_list, better_kept, fold, wanted, all_accept, list_all-append, append-nil, append_assoc, flat_map-append, has_bound, map-append, span_of, spans_of, any_flat, bound_of, cond_both, is_release, lets_in, list_any-map, names, same_triple, IfSome, is_some}
 use Rattle.nodejs_semver.specs.Internal.Candidates.{bare_release}
 use Rattle.nodejs_semver.specs.Internal.Candidates as candidate
 use Rattle.nodejs_semver.specs.{Ranges.Unions.says_all, Words.covers}
@@ -55,7 +55,7 @@ none_of es k d n q o l h = none_of_front (λ e. is_of n e && q e) es (k + 1) d (
     let up = sorted_far (λ (x y : Entry). is_lt (place_cmp x y)) (ranks_by place_total (λ (x : Entry). x)) es o i k d (omega arith) l in
     ap (λ r. is_eq r && q e) (lesser_by e.0 f.0 n (precedence f.0 e.0) _ refl up h))
 
-equal_is : (r : Ordering) → is_eq r ≡ true → r ≡ Equal
+pub equal_is : (r : Ordering) → is_eq r ≡ true → r ≡ Equal
 equal_is r h = grind arith
 
 less_is : (r : Ordering) (p : Bool) → (elim r [ Less ↦ true | Equal ↦ p | Greater ↦ false ]) ≡ true → is_eq r ≡ false → r ≡ Less
@@ -247,20 +247,12 @@ names_is : (b : Bound VersionValue) (w n : VersionValue) → precedence (bare_re
 names_is b w n e = grind (arith, names_at)
 
 -- a version of a bound is let in by what has its numbers, and a release by all
-kept_at : (s : Span VersionValue) (w n m : VersionValue) (r : Bool) → is_release w ≡ r → (if r then None else Some (bare_release w)) ≡ Some m
-    → precedence m n ≡ Equal → not (lets_in s w) ≡ not (numbers_of n s)
-kept_at s w n m r k h e = grind (arith, names_is)
-
-let_at : (s : Span VersionValue) (w : VersionValue) (r : Bool) → is_release w ≡ r → (if r then None else Some (bare_release w)) ≡ None
-    → not (lets_in s w) ≡ false
-let_at s w r k h = grind arith
-
 kept_out : (s : Span VersionValue) (b : Bound VersionValue) (n m : VersionValue) → named b ≡ Some m → precedence m n ≡ Equal
     → passes (λ w. not (lets_in s w)) b ≡ not (numbers_of n s)
-kept_out s b n m h e = grind (arith, kept_at)
+kept_out s b n m h e = grind (arith, names_is)
 
 let_in : (s : Span VersionValue) (b : Bound VersionValue) → named b ≡ None → passes (λ w. not (lets_in s w)) b ≡ false
-let_in s b h = grind (arith, let_at)
+let_in s b h = grind arith
 
 either_covers : (p q c : Bool) → ((p && c) || (q && c)) ≡ (c && not (not (p || q)))
 either_covers p q c = grind arith
@@ -282,22 +274,11 @@ module _ (t : Span VersionValue) (ss : List (Span VersionValue)) (i : Indexed) (
       ∙ any_same _ _ (λ s. sym (and-true (covers precedence s t))
       ∙ ap (λ a. covers precedence s t && not a) (sym (ap₂ (λ a b. a || b) (let_in s t.lower p) (let_in s t.upper q)))) ss
 
-  pub say_lower : (n : VersionValue) → named t.lower ≡ Some n → named t.upper ≡ None → entries_cover i.1 n t ≡ list_any (λ s. says_all s t) ss
-  say_lower n p q =
-      let own = tied_itself precedence_total n in
-      among n (λ s. grind (arith, kept_out s t.lower n n p own, let_in s t.upper q))
-
-  pub say_upper : (n : VersionValue) → named t.lower ≡ None → named t.upper ≡ Some n → entries_cover i.1 n t ≡ list_any (λ s. says_all s t) ss
-  say_upper n p q =
-      let own = tied_itself precedence_total n in
-      among n (λ s. grind (arith, let_in s t.lower p, kept_out s t.upper n n q own))
-
-  pub say_both : (n m : VersionValue) → named t.lower ≡ Some n → named t.upper ≡ Some m → is_eq (precedence n m) ≡ true
-      → entries_cover i.1 n t ≡ list_any (λ s. says_all s t) ss
-  say_both n m p q e =
-      let own = tied_itself precedence_total n in
-      let other = tied_back precedence_total n m (equal_is _ e) in
-      among n (λ s. grind (arith, kept_out s t.lower n n p own, kept_out s t.upper n m q other))
+  -- the bounds have numbers that tie with n, one of them or both
+  pub say_named : (n : VersionValue) (l u : Option VersionValue) → named t.lower ≡ l → named t.upper ≡ u → (is_some l || is_some u) ≡ true
+      → IfSome l (λ m. precedence m n ≡ Equal) → IfSome u (λ m. precedence m n ≡ Equal) → entries_cover i.1 n t ≡ list_any (λ s. says_all s t) ss
+  say_named n l u p q some h k =
+      among n (λ s. grind (arith, kept_out s t.lower n, kept_out s t.upper n, let_in s t.lower, let_in s t.upper))
 
 -- the index of one more list
 pub all_further : (is new : List Indexed) (rs : List (List (Span VersionValue))) (k : ℕ) (r : List (Span VersionValue)) (i : Indexed) (v : VersionValue)

@@ -1,25 +1,22 @@
 -- The least version beyond is the first of its kind past a mark: a lower cut of what is kept, an upper cut of what is removed,
 -- or the cut below the pre-releases that an upper bound of what is kept names. First what comes next after a version.
 use Rattle.nodejs_semver.proofs.Common.{After, All, All-append, All-cons, All-from_recursion, All-head, All-nil, All-tail, Before, Beside, Bool}
-use Rattle.nodejs_semver.proofs.Common.{Bound, Cut, End, Equal, Far, Id, IfSome, IsLeastOf, Less, List, Near, None, Numeric, Option, Ordering, Some}
-use Rattle.nodejs_semver.proofs.Common.{Span, Start, Unbounded, VersionValue, [], above_patch, accepts, alike_right, all_accept, all_flat, all_weaker}
-use Rattle.nodejs_semver.proofs.Common.{and-true, and_from, and_parts, any_flat, any_same, any_under, ap, arith, begins_with, below_named}
+use Rattle.nodejs_semver.proofs.Common.{Bound, Cut, End, Equal, Far, Id, IfSome, IsLeastOf, IsTrue, Less, List, Near, None, Numeric, Option, Ordering}
+use Rattle.nodejs_semver.proofs.Common.{Some, Span, Start, Unbounded, VersionValue, [], above_patch, accepts, alike_right, all_accept, all_flat}
+use Rattle.nodejs_semver.proofs.Common.{all_weaker, and-true, and_from, and_parts, any_flat, any_same, any_under, ap, arith, begins_with, below_named}
 use Rattle.nodejs_semver.proofs.Common.{beside, better, beyond, bool_cmp, build_by, candidates, cases_Bool, chain, common_steps, cond_both, cut_total}
-use Rattle.nodejs_semver.proofs.Common.{empty_is, false, find, first_so, firsts, flat_map, fold, gt_lt, holds, if◌then◌else◌, inl, inr}
-use Rattle.nodejs_semver.proofs.Common.{irreflexive, is_gt, is_le, is_past, is_past-down, is_release, least_build, least_of, length, lets_in}
-use Rattle.nodejs_semver.proofs.Common.{list_all, list_all-append, list_any, list_marks, lower_cut, map, names, nat_tests, not, not-true, not_above}
-use Rattle.nodejs_semver.proofs.Common.{or-false, or_cases, or_left, or_right, past_lt, pick_both, pre_cmp}
-use Rattle.nodejs_semver.proofs.Common.{precedence, precedence_total, refl, release_value, removed_marks, second_so, subst, sym, tells, tied_itself}
-use Rattle.nodejs_semver.proofs.Common.{true, upper_cut, version_eq, wanted, ◌&&◌, ◌++◌, ◌<◌, ◌||◌, ◌∙◌, ◌∷◌, ◌≡◌}
-use Rattle.nodejs_semver.proofs.{Common.{IsTrue, ◌↔◌}, Questions.Unions.by_least}
-use Rattle.nodejs_semver.specs.{Internal.Candidates.{better_kept, kept}, Ranges.Subsets.IsSubset}
-use Rattle.std.specs.Prelude.{is_none, is_some}
-use Rattle.nodejs_semver.specs.Internal.Candidates.{after_cut, among, bare, bare_release, below_at, first_past, first_pre, improves, is_reached}
-use Rattle.{nodejs_semver.specs.Internal.Candidates.{kept_marks, patch_after, pre_after, release_after, zero}, semver_core.proofs.Gate.below}
-use Rattle.semver_core.proofs.Gate.{in_order, le_of_lt, le_trans, lt_is, named, named_parts, not_gt_then, past_order, pre_upto, same_triple_is}
+use Rattle.nodejs_semver.proofs.Common.{empty_is, false, find, first_so, firsts, flat_map, fold, gt_lt, holds, if◌then◌else◌, inl, inr, irreflexive}
+use Rattle.nodejs_semver.proofs.Common.{is_gt, is_le, is_past, is_past-down, is_release, least_build, least_of, length, lets_in, list_all}
+use Rattle.nodejs_semver.proofs.Common.{list_all-append, list_any, list_marks, lower_cut, map, names, nat_tests, not, not-true, not_above, or-false}
+use Rattle.nodejs_semver.proofs.Common.{or_cases, or_left, or_right, past_lt, pick_both, pre_cmp, precedence, precedence_total, refl, release_value}
+use Rattle.nodejs_semver.proofs.Common.{removed_marks, second_so, subst, sym, tells, tied_itself, true, upper_cut, version_eq, wanted, ◌&&◌, ◌++◌}
+use Rattle.nodejs_semver.{proofs.{Common.{◌<◌, ◌||◌, ◌↔◌, ◌∙◌, ◌∷◌, ◌≡◌}, Questions.Unions.by_least}, specs.Internal.Candidates.{after_cut, among}}
+use Rattle.nodejs_semver.specs.Internal.Candidates.{bare, bare_release, below_at, better_kept, first_past, first_pre, improves, is_reached, kept}
+use Rattle.nodejs_semver.specs.{Internal.Candidates.{kept_marks, patch_after, pre_after, release_after, zero}, Ranges.Subsets.IsSubset}
+use Rattle.semver_core.proofs.Gate.{below, in_order, le_of_lt, le_trans, lt_is, named, named_parts, not_gt_then, past_order, pre_upto, same_triple_is}
 use Rattle.semver_core.proofs.{Gate.{triple_between, triple_cmp, triple_total, triple_upto, upto_by_both}, Values.NextLaws.first_of_all}
 use Rattle.semver_core.{proofs.Values.NextLaws.{least_after_pre_release, least_after_release}, specs.Internal.Successors.{above_pre, below_cases}}
-use Rattle.semver_core.specs.Internal.Successors.{below_more, upto_patch, zero_least}
+use Rattle.{semver_core.specs.Internal.Successors.{below_more, upto_patch, zero_least}, std.specs.Prelude.{is_none, is_some}}
 
 pub le_not_gt : (r : Ordering) → is_le r ≡ true → is_gt r ≡ false
 le_not_gt r h = not-true _ (sym (tells r).0 ∙ h)
@@ -228,13 +225,10 @@ module _ (v x : VersionValue) (g : Cut VersionValue) (b : Begins g v x) where
   mark_past : (d : Cut VersionValue) → under v g d ≡ true → is_past precedence d v ≡ true → is_past precedence d x ≡ true
   mark_past d e p = is_past-down precedence_total d g x (under_past v g d e p) b.past
 
-  lower_past : (c : Bound VersionValue) → list_all (under v g) (beside c) ≡ true → is_past precedence (lower_cut c) v ≡ true
-      → is_past precedence (lower_cut c) x ≡ true
-  lower_past c e p = grind (arith, mark_past, first_so)
-
-  upper_past : (c : Bound VersionValue) → list_all (under v g) (beside c) ≡ true → is_past precedence (upper_cut c) v ≡ true
-      → is_past precedence (upper_cut c) x ≡ true
-  upper_past c e p = grind (arith, mark_past, first_so)
+  cuts_past : (c : Bound VersionValue) → list_all (under v g) (beside c) ≡ true
+      → (is_past precedence (lower_cut c) v ≡ true → is_past precedence (lower_cut c) x ≡ true)
+      × (is_past precedence (upper_cut c) v ≡ true → is_past precedence (upper_cut c) x ≡ true)
+  cuts_past c e = grind (arith, mark_past, first_so)
 
   admitted : (p q l p' q' l' : Bool) → (p ≡ true → p' ≡ true) → (q' ≡ true → q ≡ true) → l ≡ l' → (not ((p && not q) && l) || ((p' && not q') && l')) ≡ true
   admitted p q l p' q' l' f h e = grind arith
@@ -243,8 +237,8 @@ module _ (v x : VersionValue) (g : Cut VersionValue) (b : Begins g v x) where
       → accepts ss v false ≡ true → accepts ss x false ≡ true
   kept_accept ss top h = any_under (λ s. holds precedence s v && lets_in s v) (λ s. holds precedence s x && lets_in s x) ss h
       (all_weaker (λ s. list_all (under v g) (kept_marks s)) _ (λ s e.
-      admitted _ _ _ _ _ _ (lower_past s.lower (first_so _ _ (sym
-      (list_all-append (under v g) (beside s.lower) (below_named s.upper)) ∙ e))) (past_up v x b.below (upper_cut s.upper))
+      admitted _ _ _ _ _ _ (cuts_past s.lower (first_so _ _ (sym
+      (list_all-append (under v g) (beside s.lower) (below_named s.upper)) ∙ e))).0 (past_up v x b.below (upper_cut s.upper))
       (sym (lets_in_alike s x v b.alike))) ss (sym (all_flat (under v g) kept_marks ss) ∙ top))
 
   all_accepted : (kss : List (List (Span VersionValue))) → list_all (under v g) (flat_map list_marks kss) ≡ true
@@ -256,7 +250,7 @@ module _ (v x : VersionValue) (g : Cut VersionValue) (b : Begins g v x) where
       → accepts ss x false ≡ true → accepts ss v false ≡ true
   removed_accept ss top h = any_under (λ s. holds precedence s x && lets_in s x) (λ s. holds precedence s v && lets_in s v) ss h
       (all_weaker (λ s. list_all (under v g) (removed_marks s)) _ (λ s e.
-      admitted _ _ _ _ _ _ (past_up v x b.below (lower_cut s.lower)) (upper_past s.upper e) (lets_in_alike s x v b.alike)) ss
+      admitted _ _ _ _ _ _ (past_up v x b.below (lower_cut s.lower)) (cuts_past s.upper e).1 (lets_in_alike s x v b.alike)) ss
       (sym (all_flat (under v g) removed_marks ss) ∙ top))
 
 -- whatever is in the set, a candidate that is not above it is in the set too
@@ -339,7 +333,7 @@ module _ (set : VersionValue → Bool) where
   no_better copies None w x h k = cc
   no_better copies (Some b) w x h k = ap (λ q. if q && set x then Some (kept copies x) else Some b) (ap not (le_trans precedence_total b w x h k))
 
-  reached : (copies : Bool) (best : Option VersionValue) (w : VersionValue) (s : Bool) → is_reached best w ≡ true
+  pub reached : (copies : Bool) (best : Option VersionValue) (w : VersionValue) (s : Bool) → is_reached best w ≡ true
       → fold (better_kept copies set) best (firsts (Beside w s)) ≡ best
   reached copies best w s h =
       grind (arith, no_better, tied_itself precedence_total w, next_patch_above w, next_pre_above w, release_above w)
@@ -347,10 +341,6 @@ module _ (set : VersionValue → Bool) where
   pub reached_near : (copies : Bool) (best : Option VersionValue) (w : VersionValue) → is_reached best w ≡ true
       → fold (better_kept copies set) best (firsts (Beside w Near)) ≡ best
   reached_near copies best w h = reached copies best w Near h
-
-  pub reached_far : (copies : Bool) (best : Option VersionValue) (w : VersionValue) → is_reached best w ≡ true
-      → fold (better_kept copies set) best (firsts (Beside w Far)) ≡ best
-  reached_far copies best w h = reached copies best w Far h
 
   -- the least version that a list names, where each version of the set has one of the list that is not above it
   pub least_named : (xs : List VersionValue) → ((v : VersionValue) → set v ≡ true → list_any (λ x. set x && is_le (precedence x v)) xs ≡ true)
@@ -500,12 +490,9 @@ held_candidate set (s ∷ ss) v f h = elim (or_cases (holds precedence s v && tr
 pub least_held : (ss : List (Span VersionValue)) → IsLeastOf (λ v. accepts ss v true) (least_of (λ v. accepts ss v true) (firsts_past ss))
 least_held ss = grind (arith, nat_tests, common_steps, least_named, held_candidate)
 
-past_bare : (b : Bound VersionValue) → (first_past b).build ≡ []
-past_bare b = grind arith
-
 bare_firsts : (ss : List (Span VersionValue)) → All (λ v. v.build ≡ []) (firsts_past ss)
 bare_firsts [] = All-nil (λ v. v.build ≡ [])
-bare_firsts (s ∷ ss) = grind (arith, All-cons, past_bare, bare_firsts ss)
+bare_firsts (s ∷ ss) = All-cons IsBare (first_past s.lower) (firsts_past ss) (grind arith) (bare_firsts ss)
 
 pub held_bare : (ss : List (Span VersionValue)) (r : Option VersionValue) → r ≡ least_of (λ v. accepts ss v true) (firsts_past ss)
     → IfSome r (λ v. v.build ≡ [])

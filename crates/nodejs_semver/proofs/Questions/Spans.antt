@@ -1,20 +1,17 @@
 -- Spans of versions of any kind, read one by one as the spans of their values.
-use Rattle.nodejs_semver.proofs.Common.{All, All-get_or, All-tail, All-weaker, AllPass-from_list_all, Any, BeginsAfterPre, Bool, Bound}
-use Rattle.nodejs_semver.proofs.Common.{IfNone, IfSome, IsAfterPre, IsLeastSoFar, IsRaisable, IsRange, List, MAX_SAFE_INTEGER, None, Option, Raisable}
+use Rattle.nodejs_semver.proofs.Common.{All, All-get_or, All-tail, All-weaker, AllPass-from_list_all, Any, BeginsAfterPre, Bool, Bound, Err, IfNone}
+use Rattle.nodejs_semver.proofs.Common.{IfSome, IsAfterPre, IsLeastSoFar, IsRaisable, IsRange, List, MAX_SAFE_INTEGER, None, Option, Raisable, Result}
 use Rattle.nodejs_semver.proofs.Common.{Some, Span, VersionValue, [], accepts, all_accept, and-true, and_parts, ap, arith, below_named, beside}
-use Rattle.nodejs_semver.proofs.Common.{beyond, bound_of, candidates, common_steps, cond_both, false, false≢true, find, find-append, first_so}
-use Rattle.nodejs_semver.proofs.Common.{firsts, flat_map, flat_map-append, fold, fold-append, get_or, get_or-map, holds, inl, inr, is_le, is_lt}
-use Rattle.nodejs_semver.proofs.Common.{is_range_span, least_build, length, length-map, lets_in, list_any, list_any-append, list_marks, map}
-use Rattle.nodejs_semver.proofs.Common.{map-append, nat_tests, not, not_if, option_map, or-false, or_cases, precedence, precedence_total, refl}
-use Rattle.nodejs_semver.proofs.Common.{removed_marks, span_of, spans_of, sym, take, take_next, tells, tied_itself, true, ℕ, ◌&&◌, ◌++◌, ◌+◌}
-use Rattle.nodejs_semver.{proofs.{Common.{◌-◌, ◌<◌, ◌^◌, ◌||◌, ◌∙◌, ◌∷◌, ◌≡◌, ◌⊎◌}, Values.map-further}, specs.Internal.Candidates.{EndsAfterPre, Finds}}
-use Rattle.nodejs_semver.specs.Internal.Candidates.{IsLeastBuilt, MayAllocate, StartsWith, first_past, has_build, lesser, zero}
-use Rattle.nodejs_semver.proofs.Common.{Err, Result, build_by, option_and_then}
-use Rattle.std.specs.Result.{IsOkAnd, MatchResult, OnErr}
-use Rattle.nodejs_semver.specs.Ranges.Least.{begins_with, names_identifiers}
-use Rattle.semver_core.specs.{Cuts.{has_bound, passes}, Lists.is_empty, Values.Versions.{HasIdentifiers, is_release}}
-use Rattle.std.proofs.{Math.Bool.or-true, lemmas.List.Folds.list_any_at}
-use Rattle.{semver_core.proofs.Gate.{le_of_lt, le_trans, lt_is, lt_le, past_order}, std.specs.Option.option_or}
+use Rattle.nodejs_semver.proofs.Common.{beyond, bound_of, build_by, candidates, common_steps, cond_both, false, false≢true, find, find-append}
+use Rattle.nodejs_semver.proofs.Common.{first_so, firsts, flat_map, flat_map-append, fold, fold-append, get_or, get_or-map, holds, inl, inr, is_le}
+use Rattle.nodejs_semver.proofs.Common.{is_lt, is_range_span, least_build, length, length-map, lets_in, list_any, list_any-append, list_marks, map}
+use Rattle.nodejs_semver.proofs.Common.{map-append, nat_tests, not, not_if, option_and_then, option_map, or-false, or_cases, precedence}
+use Rattle.nodejs_semver.proofs.Common.{precedence_total, refl, removed_marks, span_of, spans_of, sym, take, take_next, tells, tied_itself, true, ℕ}
+use Rattle.nodejs_semver.proofs.{Common.{◌&&◌, ◌++◌, ◌+◌, ◌-◌, ◌<◌, ◌^◌, ◌||◌, ◌∙◌, ◌∷◌, ◌≡◌, ◌⊎◌}, Values.map-further}
+use Rattle.nodejs_semver.specs.Internal.Candidates.{EndsAfterPre, Finds, IsLeastBuilt, MayAllocate, StartsWith, first_past, has_build, lesser, zero}
+use Rattle.{nodejs_semver.specs.Ranges.Least.{begins_with, names_identifiers}, semver_core.proofs.Gate.{le_of_lt, le_trans, lt_is, lt_le, past_order}}
+use Rattle.{semver_core.specs.{Cuts.{has_bound, passes}, Lists.is_empty, Values.Versions.{HasIdentifiers, is_release}}, std.proofs.Math.Bool.or-true}
+use Rattle.std.{proofs.lemmas.List.Folds.list_any_at, specs.{Option.option_or, Result.{IsOkAnd, MatchResult, OnErr}}}
 
 -- the patch of a bound of a range can be raised
 module _ (limit : ℕ) (far : limit < 2 ^ 64 - 1) where
@@ -230,9 +227,6 @@ pub first_names : (p : Span VersionValue → Bool) (ss : List (Span VersionValue
 first_names p [] s e h = cc
 first_names p (x ∷ ss) s e h = grind (arith, built_names s.lower h, first_names p ss s)
 
-begins_built : (b : Bound VersionValue) (x : VersionValue) → begins_with b ≡ Some x → 0 < length x.build → has_build b ≡ true
-begins_built b x e h = grind arith
-
 pub build_names : (ss : List (Span VersionValue)) (v : VersionValue) → 0 < length (least_build ss v) → names_identifiers ss ≡ true
 build_names ss v h = of_first (find first ss) refl h
   where
@@ -243,7 +237,7 @@ build_names ss v h = of_first (find first ss) refl h
         → 0 < length (build_by (option_and_then (λ s. begins_with s.lower) r) v)
         → names_identifiers ss ≡ true
     of_first None e h = absurd (omega (arith, h))
-    of_first (Some s) e h = grind (arith, first_names first ss s e, begins_built s.lower)
+    of_first (Some s) e h = grind (arith, first_names first ss s e)
 
 -- the search for a least version
 pub one_names : (ks ls : List (Span VersionValue)) → MayAllocate true (ks ∷ []) ls

@@ -1,15 +1,14 @@
 -- Questions about ranges: parts of ranges, unions, and the ranges of some versions.
 use Rattle.nodejs_semver.proofs.Common.{All, All-weaker, AreTaking, Bool, Bound, Contains, IfOk, IfOk-weaker, IsLeastOf, IsRange, IsTrue, List, None}
 use Rattle.nodejs_semver.proofs.Common.{Option, Ordering, Result, Some, Span, VersionValue, [], accepts, and_parts, ap, append_assoc, ap₂, arith}
-use Rattle.nodejs_semver.proofs.Common.{common_steps, false, filter, get_or, gt_lt, has_bound, holds, if_any, if◌then◌else◌, is_empty, is_past-down}
-use Rattle.nodejs_semver.proofs.Common.{is_range_span, is_release, length, length-append, lets_in, list_all, list_all-append, list_any}
+use Rattle.nodejs_semver.proofs.Common.{common_steps, drop, false, filter, get_or, gt_lt, has_bound, holds, if_any, if◌then◌else◌, is_empty}
+use Rattle.nodejs_semver.proofs.Common.{is_past-down, is_range_span, is_release, length, length-append, lets_in, list_all, list_all-append, list_any}
 use Rattle.nodejs_semver.proofs.Common.{list_any-append, list_any-map, map, map-append, names, nat_tests, not, not-true, or-false, or_cases, or_left}
-use Rattle.nodejs_semver.proofs.Common.{or_parts, or_right, passes, precedence, precedence_total, refl, same_triple, span_of, spans_of, sym}
-use Rattle.nodejs_semver.proofs.Common.{take, tells, true, ℕ, ◌&&◌, ◌++◌, ◌+◌, ◌<◌, ◌||◌, ◌↔◌, ◌∙◌, ◌∷◌, ◌≡◌, ◌≤◌, ◌⊎◌}
+use Rattle.nodejs_semver.proofs.Common.{or_parts, or_right, passes, precedence, precedence_total, refl, same_triple, span_of, spans_of, sym, take}
+use Rattle.nodejs_semver.proofs.Common.{take-append-drop, tells, true, ℕ, ◌&&◌, ◌++◌, ◌+◌, ◌<◌, ◌||◌, ◌↔◌, ◌∙◌, ◌∷◌, ◌≡◌, ◌≤◌, ◌⊎◌}
 use Rattle.nodejs_semver.specs.{Internal.Questions.{admits, is_said, is_used}, Ranges.{Simple.simplified, Subsets.{AcceptSame, IsSubset}}}
 use Rattle.{nodejs_semver.specs.Ranges.Unions.{says_all, union}, semver_core.specs.Cuts.covers, std.proofs.lemmas.List.Elements.All-contains_itself}
 use Rattle.std.{proofs.lemmas.List.{Elements.filter-append, Filters.length-filter_both, Folds.list_any_at}, specs.Prelude.is_none}
-use Rattle.nodejs_semver.proofs.Common.{drop, take-append-drop}
 
 -- ---- parts of ranges
 
@@ -134,11 +133,8 @@ more-taking takes xs ys h = grind (arith, nat_tests, common_steps)
 abbrev used_of : List VersionValue → List (Span VersionValue) → List (Span VersionValue)
 used_of vs ss = filter (λ s. list_any (λ v. admits s v) vs) ss
 
-one_span : (s : Span VersionValue) (v : VersionValue) → accepts (s ∷ []) v false ≡ admits s v
-one_span s v = or-false (admits s v)
-
 simplified-is : (vs : List VersionValue) (ss : List (Span VersionValue)) → simplified vs ss ≡ (if is_empty (used_of vs ss) then ss else used_of vs ss)
-simplified-is vs ss = λ i. let used = filter (λ s. list_any (λ v. one_span s v i) vs) ss in if is_empty used then ss else used
+simplified-is vs ss = simp or-false
 
 used_same : (vs : List VersionValue) (ss : List (Span VersionValue)) → All (λ v. accepts (used_of vs ss) v false ≡ accepts ss v false) vs
 used_same vs ss =
