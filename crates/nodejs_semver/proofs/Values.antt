@@ -147,14 +147,10 @@ abbrev pub bars_after : {A : Type 0} → List A → List ℕ
 bars_after [] = []
 bars_after (s ∷ rest) = 124 ∷ 124 ∷ []
 
-range_push : {A : Type 0} (text : A → List ℕ) (xs : List A) (x : A)
-    → joined text (xs ++ x ∷ []) ≡ joined text xs ++ (bars_after xs ++ text x)
-range_push text xs x = grind (arith, append-nil, flat_map-append, append_assoc)
-
 pub range_step : {A : Type 0} (text : A → List ℕ) (xs : List A) (i : ℕ) (separator : List ℕ) (x : A) → i < length xs
     → separator ≡ bars_after (take i xs) → x ≡ get_or xs i x
     → joined text (take i xs) ++ (separator ++ text x) ≡ joined text (take (i + 1) xs)
-range_step text xs i separator x lt e h = grind (arith, nat_tests, common_steps, take_next, range_push)
+range_step text xs i separator x lt e h = grind (arith, nat_tests, common_steps, take_next, append-nil, flat_map-append, append_assoc)
 
 pub bars_step : {A : Type 0} (xs : List A) (i : ℕ) (x : A) → i < length xs → x ≡ get_or xs i x
     → 124 ∷ 124 ∷ [] ≡ bars_after (take (i + 1) xs)

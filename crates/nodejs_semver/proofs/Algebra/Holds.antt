@@ -1,7 +1,7 @@
 -- What a range text's intervals hold is what the text writes.
 use Rattle.nodejs_semver.proofs.Common.{Bool, IsTotalOrder, List, Ordering, Run, VersionValue, [], ap₂, arith, denotes, flat_map, interval_of}
-use Rattle.nodejs_semver.proofs.Common.{is_empty, list_all, list_any, list_any-append, list_holds, map, part_denotes, parts, precedence}
-use Rattle.nodejs_semver.proofs.{Common.{precedence_total, refl, run_writes, sym, true, ℕ, ◌||◌, ◌∙◌, ◌∷◌, ◌≡◌}, Dividing.RunLemmas.run-holds}
+use Rattle.nodejs_semver.proofs.Common.{list_any, list_any-append, list_holds, map, part_denotes, precedence}
+use Rattle.nodejs_semver.proofs.{Common.{precedence_total, refl, run_writes, ℕ, ◌||◌, ◌∷◌, ◌≡◌}, Dividing.RunLemmas.run-holds}
 use Rattle.{nodejs_semver.specs.Internal.Writes.{part_writes, writes}, semver_core.proofs.Dividing.BarLemmas.parts-front}
 
 runs-hold : {V : Type 0} {R : V → V → Ordering} → IsTotalOrder R → (v : V) (rs : List (Run V))

@@ -97,12 +97,9 @@ module _ {V : Type 0} (in_front behind beaten : V → V → Bool) (front : (w v 
       let member = Contains-append_right h.1 (v.now ∷ h.2) v.now (0, omega arith, refl) in
       (subst (λ l. Contains l v.now) (sym h.3) member, h.0, all_beaten list v.now h, tt)
 
-tied_le : (v : VersionValue) → is_le (precedence v v) ≡ true
-tied_le v = grind (arith, tied_itself, precedence_total)
-
 module _ {W : Type 0} (value : W → VersionValue) (set : VersionValue → Bool) (list : List W) (r : Option (Bor W)) where
   pub max_says : IsMaxOf value set list (option_copied r) → Says (λ w v. is_le (precedence (value w) (value v))) (λ w. set (value w)) list r
-  max_says = best_says _ _ _ (λ w v h. h) (λ w v h. le_of_lt (precedence (value w) (value v)) h) (λ v. tied_le (value v)) _ list r
+  max_says = best_says _ _ _ (λ w v h. h) (λ w v h. le_of_lt (precedence (value w) (value v)) h) (λ v. ap is_le (tied_itself precedence_total (value v))) _ list r
 
   pub min_says : IsMinOf value set list (option_copied r) → Says (λ w v. is_le (precedence (value v) (value w))) (λ w. set (value w)) list r
-  min_says = best_says _ _ _ (λ w v h. le_of_lt (precedence (value v) (value w)) h) (λ w v h. h) (λ v. tied_le (value v)) _ list r
+  min_says = best_says _ _ _ (λ w v h. le_of_lt (precedence (value v) (value w)) h) (λ w v h. h) (λ v. ap is_le (tied_itself precedence_total (value v))) _ list r

@@ -12,7 +12,7 @@ use Rattle.nodejs_semver.proofs.Common.{or_cases, or_left, or_right, past_lt, pi
 use Rattle.nodejs_semver.proofs.Common.{removed_marks, second_so, subst, sym, tells, tied_itself, true, upper_cut, version_eq, wanted, ◌&&◌, ◌++◌}
 use Rattle.nodejs_semver.{proofs.{Common.{◌<◌, ◌||◌, ◌↔◌, ◌∙◌, ◌∷◌, ◌≡◌}, Questions.Unions.by_least}, specs.Internal.Candidates.{after_cut, among}}
 use Rattle.nodejs_semver.specs.Internal.Candidates.{bare, bare_release, below_at, better_kept, first_past, first_pre, improves, is_reached, kept}
-use Rattle.nodejs_semver.specs.{Internal.Candidates.{kept_marks, patch_after, pre_after, release_after, zero}, Ranges.Subsets.IsSubset}
+use Rattle.nodejs_semver.specs.{Internal.Candidates.{kept_marks, patch_after, pre_after, release_after}, Ranges.Subsets.IsSubset}
 use Rattle.semver_core.proofs.Gate.{below, in_order, le_of_lt, le_trans, lt_is, named, named_parts, not_gt_then, past_order, pre_upto, same_triple_is}
 use Rattle.semver_core.proofs.{Gate.{triple_between, triple_cmp, triple_total, triple_upto, upto_by_both}, Values.NextLaws.first_of_all}
 use Rattle.semver_core.{proofs.Values.NextLaws.{least_after_pre_release, least_after_release}, specs.Internal.Successors.{above_pre, below_cases}}
@@ -26,9 +26,6 @@ pub first_pre_least : (w v : VersionValue) → triple_cmp w v ≡ Equal → is_g
 first_pre_least w v e = upto_by_both (first_pre w) v (ap is_gt e) (le_not_gt _ (zero_least v.pre_release))
 
 -- the list with Numeric 0 after it is above it, and not above what is above it
-pub next_pre : (w : VersionValue) → is_release w ≡ false → is_release (pre_after w) ≡ false
-next_pre w k = grind arith
-
 pub next_pre_above : (w : VersionValue) → is_release w ≡ false → precedence w (pre_after w) ≡ Less
 next_pre_above w k = grind (arith, above_pre, below_more)
 
@@ -44,10 +41,6 @@ next_patch_above w = above_patch w (patch_after w) refl refl (omega arith)
 -- the next patch of a release is not above a release that is above it
 pub next_patch_least : (w v : VersionValue) → w.pre_release ≡ [] → v.pre_release ≡ [] → precedence w v ≡ Less → is_gt (precedence (patch_after w) v) ≡ false
 next_patch_least w v e f h = grind (arith, nat_tests, below_cases w v h, le_not_gt)
-
--- 0.0.0 is the least release
-pub zero_first : (v : VersionValue) → v.pre_release ≡ [] → is_gt (precedence zero v) ≡ false
-zero_first v e = grind (arith, le_not_gt, upto_patch)
 
 -- ---- the greatest mark
 
@@ -116,7 +109,7 @@ near_begins w v h k =
 
 begins_release : (g : Cut VersionValue) (v : VersionValue) → is_release v ≡ true → is_past precedence g v ≡ true
     → (P : VersionValue → Bool) → ((x : VersionValue) → Begins g v x → P x ≡ true) → list_any P (firsts g) ≡ true
-begins_release Start v k h P f = grind (arith, zero_first, empty_is, kind_of_release)
+begins_release Start v k h P f = grind (arith, le_not_gt, upto_patch, empty_is, kind_of_release)
 begins_release End v k h P f = cc
 begins_release (Beside w s) v k h P f = grind (arith, by_side s h, by_pre, f (release_after w s), f (bare_release w))
   where
@@ -153,7 +146,7 @@ begins_pre (Beside u s) w v k e m h P f =
     by_side Far h t r = record {
       past = past_less u (pre_after u) Far (next_pre_above u r);
       below = next_pre_least u v r (far_less u v h);
-      alike = record { release = next_pre u r ∙ sym k; triple = λ _. t };
+      alike = record { release = grind arith; triple = λ _. t };
     }
 
 -- ---- the span that lets a pre-release in names the triple

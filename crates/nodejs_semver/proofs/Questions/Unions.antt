@@ -181,6 +181,3 @@ module _ {V W : Type 0} (value : V → VersionValue) (other : W → VersionValue
 -- a copy answers the same about every version
 pub copy-same : (r ss : List (Span VersionValue)) (vs : List VersionValue) → r ≡ ss → All (λ v. accepts r v false ≡ accepts ss v false) vs
 copy-same r ss vs e = grind (arith, All-contains_itself, All-weaker)
-
-pub copy-shorter : (r ss : List (Span VersionValue)) → r ≡ ss → length r ≤ length ss
-copy-shorter r ss e = omega (arith, ap length e)

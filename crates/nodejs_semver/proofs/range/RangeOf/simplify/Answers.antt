@@ -1,4 +1,4 @@
-use Rattle.nodejs_semver.proofs.{Common.{IfOk-weaker, arith, common_steps, nat_tests, on_err, refl, sym, take_all, ◌∙◌}, Questions.Unions.{copy-same, copy-shorter}}
+use Rattle.nodejs_semver.proofs.{Common.{IfOk-weaker, ap, arith, common_steps, length, nat_tests, on_err, refl, sym, take_all, ◌∙◌}, Questions.Unions.{copy-same}}
 use Rattle.nodejs_semver.proofs.Questions.Unions.{none-list, some-list, some-same, some-shorter, taken_at, used-taking, used-valid}
 use Rattle.nodejs_semver.proofs.Values.{taking-values}
 use Rattle.nodejs_semver.proofs.range.RangeOf.simplify.Goals as goal
@@ -39,6 +39,6 @@ returns-in-None g c =
     record {
       list = IfOk-weaker c.copy.result _ _ (λ r e. e ∙ none) c.copy.ensures.whole;
       same = IfOk-weaker c.copy.result _ _ (λ r e. copy-same r c.args.self.now _ e) c.copy.ensures.whole;
-      shorter = IfOk-weaker c.copy.result _ _ (λ r e. copy-shorter r c.args.self.now e) c.copy.ensures.whole;
+      shorter = IfOk-weaker c.copy.result _ _ (λ r e. omega (arith, ap length e)) c.copy.ensures.whole;
       memory = rw (sym none) c.copy.ensures.memory;
     }
