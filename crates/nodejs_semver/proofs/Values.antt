@@ -40,11 +40,9 @@ map-none f (x ∷ xs) e = grind (arith, nat_tests)
 some-map : {A B : Type 0} (f : A → B) (m : Option A) → is_some (option_map f m) ≡ is_some m
 some-map f m = grind arith
 
--- what is mapped over a choice, an option, and lists that are joined
 list-map : {A B : Type 0} (f : A → B) (m : Option A) → map f (option_to_list m) ≡ option_to_list (option_map f m)
 list-map f m = grind arith
 
--- what is mapped over a choice, an option, and lists that are joined
 abbrev listed : {A : Type 0} → Option A × Option A → List A
 listed parts = option_to_list parts.0 ++ option_to_list parts.1
 

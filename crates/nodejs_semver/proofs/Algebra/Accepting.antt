@@ -139,7 +139,6 @@ accepts-held ss v = any_same _ _ (λ s. and-true (holds precedence s v)) ss
 if_any_some : {A : Type 0} (xs : List A) → is_some (if_any xs) ≡ list_any (λ _. true) xs
 if_any_some xs = grind arith
 
--- there is an intersection exactly where some pair meets
 option_some : {A : Type 0} (m : Option A) → is_some m ≡ list_any (λ _. true) (option_to_list m)
 option_some m = grind arith
 

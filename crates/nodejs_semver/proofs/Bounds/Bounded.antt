@@ -5,13 +5,13 @@ use Rattle.nodejs_semver.proofs.{Common.{same_Some, sign_at, tilde, true, upper_
 use Rattle.nodejs_semver.specs.Internal.Words.{at_boundary, behind_sign, or_else, or_malformed, signed_word, word_behind}
 use Rattle.{nodejs_semver.specs.Text.PartialText.IsComponent, semver_core.{proofs.Normal.identifiers-normal, specs.Internal.Reading.◌>>?◌}}
 
--- ---- partials
-
 pre_release-normal : (text rest : List ℕ) (ids : List Id) → IsPreRelease text rest ids → list_all is_normal ids ≡ true
 pre_release-normal text rest ids h = grind (arith, identifiers-normal)
 
 build-normal : (text rest : List ℕ) (ids : List Id) → IsBuild text rest ids → list_all is_normal ids ≡ true
 build-normal text rest ids h = grind (arith, identifiers-normal)
+
+-- ---- partials
 
 abbrev pub Fits : ℕ → Option ℕ → Type 0
 Fits limit None = Unit {0}
