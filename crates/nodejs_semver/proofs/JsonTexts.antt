@@ -1,5 +1,5 @@
 -- What the reader of JSON leaves to be said of memory.
-use Rattle.nodejs_semver.proofs.Common.{Err, Failure, List, Memory, MemoryOnlyIf, Ok, Refused, Result, Some, [], arith, length, ℕ, ◌<◌, ◌∷◌}
+use Rattle.nodejs_semver.proofs.Common.{Failure, List, MemoryOnlyIf, Result, Some, [], arith, length, ℕ, ◌<◌, ◌∷◌}
 use Rattle.nodejs_semver.proofs.Common.{◌≡◌}
 use Rattle.serde_json.proofs.OnLiterals.{serde_json_on_literals}
 use Rattle.serde_json.specs.{Data.{Data}, Read.{read}}
@@ -11,6 +11,4 @@ read-some [] d h = absurd (cc)
 read-some (b ∷ rest) d h = omega arith
 
 pub memory-if : {A E : Type 0} (r : Result A (Failure E)) (P : Type 0) → P → MemoryOnlyIf r P
-memory-if (Ok v) P p = tt
-memory-if (Err (Refused e)) P p = tt
-memory-if (Err (Memory e)) P p = p
+memory-if r P p = grind arith

@@ -103,13 +103,9 @@ pub same_back : (list : List (Span VersionValue)) → range_eq (map read_back li
 same_back [] = refl
 same_back (s ∷ rest) = grind (arith, bounds_same, same_back rest)
 
--- the tests of a printable interval, as facts
-bound_readable : (limit : ℕ) (b : Bound VersionValue) → is_range_bound limit b ≡ true → IsReadableBound limit b
-bound_readable limit b h = grind arith
-
 -- a bound of a range, of small numbers
 small_bound : (limit : ℕ) (b : Bound VersionValue) → is_range_bound (limit + 1) b ≡ true → is_small limit b ≡ true
-    → is_range_bound limit b ≡ true
+    → IsReadableBound limit b
 small_bound limit b h k = grind arith
 
 span_tidy : (limit : ℕ) (s : Span VersionValue) → limit < 2 ^ 64 → is_range_span (limit + 1) s ≡ true
@@ -121,8 +117,7 @@ span_tidy limit s fits range h =
     (is_range_bound (limit + 1) s.lower && is_range_bound (limit + 1) s.upper) range in
     let bounds = and_parts (is_range_bound (limit + 1) s.lower) (is_range_bound (limit + 1) s.upper) parts.1 in
     bounds_tidy limit s.lower s.upper fits parts.0 both.0
-    (bound_readable limit s.lower (small_bound limit s.lower bounds.0 small.0))
-    (bound_readable limit s.upper (small_bound limit s.upper bounds.1 small.1))
+    (small_bound limit s.lower bounds.0 small.0) (small_bound limit s.upper bounds.1 small.1)
 
 -- a printed range is its intervals' texts between bars
 printed_tidy : (limit : ℕ) (s : Span VersionValue) (rest : List (Span VersionValue)) → limit < 2 ^ 64

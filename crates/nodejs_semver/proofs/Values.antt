@@ -1,22 +1,17 @@
 -- What holds of spans of versions holds of the spans of their values, where the order of the versions is that of the values.
-use Rattle.nodejs_semver.proofs.Common.{After, AreTaking, Before, Bool, Bound, List, None, common_steps, nat_tests}
-use Rattle.nodejs_semver.proofs.Common.{Option, Ordering, Some, Span, TakesMemory, Unbounded, VersionValue, [], ap, append-nil}
-use Rattle.nodejs_semver.proofs.Common.{append_assoc, ap₂, arith, bound_of, codes, cut_cmp, false, flat_map, flat_map-append, flat_map-map}
-use Rattle.nodejs_semver.proofs.Common.{get_or, greater_lower, has_bound, if◌then◌else◌, inl, inr, interval, is_interval}
-use Rattle.nodejs_semver.proofs.Common.{is_some, join_by, left_above, left_below, length, length-map, lesser_upper}
-use Rattle.nodejs_semver.proofs.Common.{list_all, list_all-map, list_any, lower_cut, map, map-append, meet, meets_of, minus, option_map}
-use Rattle.nodejs_semver.proofs.Common.{option_to_list, passes, precedence, range_text}
-use Rattle.nodejs_semver.proofs.Common.{refl, remainder, span_of, span_text, spans_of, sym, take, take_next, true, upper_cut, ℕ, ◌++◌, ◌+◌}
-use Rattle.nodejs_semver.proofs.Common.{is_range_bound, is_range_span, ◌&&◌, ◌<◌, ◌==◌, ◌∙◌, ◌∷◌, ◌≡◌}
+use Rattle.nodejs_semver.proofs.Common.{AreTaking, Bool, Bound, List, None, Option, Ordering, Some, Span, TakesMemory, VersionValue, [], ap}
+use Rattle.nodejs_semver.proofs.Common.{append-nil, append_assoc, arith, bound_of, codes, common_steps, cut_cmp, false, flat_map, flat_map-append}
+use Rattle.nodejs_semver.proofs.Common.{flat_map-map, get_or, greater_lower, has_bound, if◌then◌else◌, inl, inr, interval, is_interval}
+use Rattle.nodejs_semver.proofs.Common.{is_range_bound, is_range_span, is_some, join_by, left_above, left_below, length, length-map, lesser_upper}
+use Rattle.nodejs_semver.proofs.Common.{list_all, list_all-map, list_any, lower_cut, map, map-append, meet, meets_of, minus, nat_tests, option_map}
+use Rattle.nodejs_semver.proofs.Common.{option_to_list, passes, precedence, range_text, refl, remainder, span_of, span_text, spans_of, sym, take}
+use Rattle.nodejs_semver.proofs.Common.{take_next, true, upper_cut, ℕ, ◌&&◌, ◌++◌, ◌+◌, ◌<◌, ◌==◌, ◌∙◌, ◌∷◌, ◌≡◌}
 use Rattle.semver_core.specs.Values.Memory.{takes_memory}
 
 -- versions that are their own values
-pub span_same : (s : Span VersionValue) → span_of (λ v. v) s ≡ s
-span_same s = grind arith
-
 pub spans_same : (ss : List (Span VersionValue)) → spans_of (λ v. v) ss ≡ ss
 spans_same [] = refl
-spans_same (s ∷ ss) = ap₂ (λ t ts. t ∷ ts) (span_same s) (spans_same ss)
+spans_same (s ∷ ss) = grind (arith, spans_same ss)
 
 -- the text of a range of values, as a loop over its intervals writes it
 abbrev pub printed : {V : Type 0} → (V → VersionValue) → List (Span V) → List ℕ
@@ -59,7 +54,7 @@ listed-map f t x y s = grind (arith, map-append)
 flat-map : {A B C D : Type 0} (f : C → D) (g : A → List C) {h : A → B} (k : B → List D) → ((x : A) → map f (g x) ≡ k (h x))
     → (xs : List A) → map f (flat_map g xs) ≡ flat_map k (map h xs)
 flat-map f g k e [] = refl
-flat-map f g k e (x ∷ xs) = map-append f (g x) _ ∙ ap₂ (λ a b. a ++ b) (e x) (flat-map f g k e xs)
+flat-map f g k e (x ∷ xs) = grind (arith, map-append, e x, flat-map f g k e xs)
 
 module _ {V : Type 0} (R : V → V → Ordering) (value : V → VersionValue)
     (ordered : (v w : V) → R v w ≡ precedence (value v) (value w)) where
@@ -128,9 +123,7 @@ module _ {V : Type 0} (R : V → V → Ordering) (value : V → VersionValue)
 module _ {V : Type 0} (takes : V → Bool) (value : V → VersionValue)
     (copied : (v : V) → takes v ≡ true → takes_memory (value v) ≡ true) where
   passes-values : (b : Bound V) → passes takes b ≡ true → passes takes_memory (bound_of value b) ≡ true
-  passes-values Unbounded h = h
-  passes-values (Before v) h = copied v h
-  passes-values (After v) h = copied v h
+  passes-values b h = grind (arith, copied)
 
   any-values : (ss : List (Span V)) → list_any (has_bound takes) ss ≡ true
       → list_any (has_bound takes_memory) (spans_of value ss) ≡ true
@@ -152,14 +145,10 @@ abbrev pub bars_after : {A : Type 0} → List A → List ℕ
 bars_after [] = []
 bars_after (s ∷ rest) = 124 ∷ 124 ∷ []
 
-range_push : {A : Type 0} (text : A → List ℕ) (xs : List A) (x : A)
-    → joined text (xs ++ x ∷ []) ≡ joined text xs ++ (bars_after xs ++ text x)
-range_push text xs x = grind (arith, append-nil, flat_map-append, append_assoc)
-
 pub range_step : {A : Type 0} (text : A → List ℕ) (xs : List A) (i : ℕ) (separator : List ℕ) (x : A) → i < length xs
     → separator ≡ bars_after (take i xs) → x ≡ get_or xs i x
     → joined text (take i xs) ++ (separator ++ text x) ≡ joined text (take (i + 1) xs)
-range_step text xs i separator x lt e h = grind (arith, nat_tests, common_steps, take_next, range_push)
+range_step text xs i separator x lt e h = grind (arith, nat_tests, common_steps, take_next, append-nil, flat_map-append, append_assoc)
 
 pub bars_step : {A : Type 0} (xs : List A) (i : ℕ) (x : A) → i < length xs → x ≡ get_or xs i x
     → 124 ∷ 124 ∷ [] ≡ bars_after (take (i + 1) xs)

@@ -2,13 +2,12 @@
 use Rattle.nodejs_semver.proofs.Algebra.Accepting.{accepts-held, accepts-release, list_holds-meets_of, list_holds-minus, option_list_holds-if_any}
 use Rattle.nodejs_semver.proofs.Common.{Bool, Bound, IfOk, IfOk-weaker, IsRange, IsTotalOrder, IsTrue, List, MAX_SAFE_INTEGER, None, Option, Ordering}
 use Rattle.nodejs_semver.proofs.Common.{Result, Some, Span, VersionValue, [], accepts, all_flat, all_weaker, and_from, and_parts, ap, append-nil, ap₂}
-use Rattle.nodejs_semver.proofs.Common.{arith, cond_both, cut_cmp, difference, false, first_so, flat_map, get_or, if_any, inl, inr, intersection}
+use Rattle.nodejs_semver.proofs.Common.{arith, cond_both, cut_cmp, difference, false, first_so, flat_map, get_or, inl, inr, intersection}
 use Rattle.nodejs_semver.proofs.Common.{is_gt, is_interval, is_range_bound, is_range_span, is_release, is_some, left_above, left_below, length}
 use Rattle.nodejs_semver.proofs.Common.{length-map, list_all, list_all-append, list_holds, lower_cut, meet, meets_of, minus, not, option_accepts}
 use Rattle.nodejs_semver.proofs.Common.{option_list_holds, option_to_list, precedence, precedence_total, refl, remainder, remainders_by, span_of}
 use Rattle.nodejs_semver.proofs.Common.{spans_of, subst, sym, true, turned_lower, turned_upper, upper_cut, ℕ, ◌&&◌, ◌++◌, ◌+◌, ◌<◌, ◌∙◌, ◌∷◌, ◌≡◌}
 use Rattle.{nodejs_semver.proofs.{Common.{◌≢◌, ◌⊎◌}, Values.{all_intervals-values, meets_of-values, minus-values}}, semver_core.proofs.FlatMaps.lone}
-use Rattle.semver_core.proofs.FlatMaps.{part_some}
 
 module _ {V : Type 0} {R : V → V → Ordering} (o : IsTotalOrder R) (F : Bound V → Bool) where
   -- an interval with such bounds
@@ -45,8 +44,7 @@ module _ {V : Type 0} {R : V → V → Ordering} (o : IsTotalOrder R) (F : Bound
       ∙ and_from _ _ (fine-left_below s t a c) (fine-left_above s t d b)) (λ _. rw h refl)
 
   pub fine-meets_of : (ss ts : List (Span V)) → list_all is_fine ss ≡ true → list_all is_fine ts ≡ true → list_all is_fine (meets_of R ss ts) ≡ true
-  fine-meets_of ss ts h k = all_flat is_fine _ ss
-      ∙ all_weaker is_fine _ (λ s e. all_flat is_fine _ ts ∙ all_weaker is_fine _ (λ t f. fine-meet s t e f) ts k) ss h
+  fine-meets_of ss ts h k = grind (arith, all_flat, all_weaker, fine-meet)
 
   pub fine-minus : (ss ts : List (Span V)) → list_all is_fine ss ≡ true → list_all is_fine ts ≡ true → list_all is_fine (minus R ss ts) ≡ true
   fine-minus ss [] h k = h
@@ -62,19 +60,6 @@ pub meets_of-lone : {V : Type 0} (R : V → V → Ordering) (xs ys : List (Span 
     → s ≡ get_or xs 0 s → t ≡ get_or ys 0 t → meets_of R xs ys ≡ option_to_list (meet R s t)
 meets_of-lone R xs ys s t e f g h = grind (arith, lone, append-nil)
 
-pub listed_some : {A : Type 0} (m : Option A) → IsTrue (is_some m) → 0 < length (option_to_list m)
-listed_some m e = part_some m m refl e
-
-pub listed_none : {A : Type 0} (m : Option A) (is : Bool) → is ≡ is_some m → is ≡ false → option_to_list m ≡ []
-listed_none m is e f = grind arith
-
-option_accepts-held : (r : Option (List (Span VersionValue))) (v : VersionValue) → option_accepts r v true ≡ option_list_holds precedence r v
-option_accepts-held r v = grind (arith, accepts-held)
-
-option_accepts-release : (r : Option (List (Span VersionValue))) (v : VersionValue) → is_release v ≡ true
-    → option_accepts r v false ≡ option_list_holds precedence r v
-option_accepts-release r v h = grind (arith, accepts-release)
-
 -- what holds of a list holds of a result that is this list
 pub of_result : {E : Type 0} (list : Option (List (Span VersionValue))) (r : Result (Option (List (Span VersionValue))) E)
     → IfOk r (λ q. q ≡ list) → (P : Option (List (Span VersionValue)) → Type 0) → P list → IfOk r P
@@ -89,25 +74,18 @@ pub difference-set : (a b : List (Span VersionValue)) (v : VersionValue)
 difference-set a b v = option_list_holds-if_any precedence (minus precedence a b) v ∙ list_holds-minus precedence_total a b v
 
 pub intersection-all : (a b : List (Span VersionValue)) (v : VersionValue) → option_accepts (intersection a b) v true ≡ (accepts a v true && accepts b v true)
-intersection-all a b v = rw (option_accepts-held (intersection a b) v, accepts-held a v, accepts-held b v) (intersection-set a b v)
+intersection-all a b v = grind (arith, accepts-held, intersection-set a b v)
 
 pub difference-all : (a b : List (Span VersionValue)) (v : VersionValue) → option_accepts (difference a b) v true ≡ (accepts a v true && not (accepts b v true))
-difference-all a b v = rw (option_accepts-held (difference a b) v, accepts-held a v, accepts-held b v) (difference-set a b v)
+difference-all a b v = grind (arith, accepts-held, difference-set a b v)
 
 pub intersection-releases : (a b : List (Span VersionValue)) (v : VersionValue) → is_release v ≡ true
     → option_accepts (intersection a b) v false ≡ (accepts a v false && accepts b v false)
-intersection-releases a b v h = rw (option_accepts-release (intersection a b) v h, accepts-release a v h, accepts-release b v h) (intersection-set a b v)
+intersection-releases a b v h = grind (arith, accepts-release, intersection-set a b v)
 
 pub difference-releases : (a b : List (Span VersionValue)) (v : VersionValue) → is_release v ≡ true
     → option_accepts (difference a b) v false ≡ (accepts a v false && not (accepts b v false))
-difference-releases a b v h = rw (option_accepts-release (difference a b) v h, accepts-release a v h, accepts-release b v h) (difference-set a b v)
-
--- lists of one or more elements
-any_some : {A : Type 0} (xs : List A) → 0 < length xs → IsTrue (is_some (if_any xs))
-any_some xs h = grind arith
-
-several : {A : Type 0} (xs : List A) → 0 < length xs → length xs ≢ 1 → 1 < length xs
-several xs h n = grind arith
+difference-releases a b v h = grind (arith, accepts-release, difference-set a b v)
 
 -- the spans of a range are intervals
 pub all_intervals : (n : ℕ) (ss : List (Span VersionValue)) → list_all (is_range_span n) ss ≡ true → list_all (is_interval precedence) ss ≡ true
@@ -135,11 +113,11 @@ module _ {V : Type 0} (R : V → V → Ordering) (value : V → VersionValue)
 
   -- where the lists have an intersection or a difference, the ranges do
   pub meets_of-some : 0 < length (meets_of R xs ys) → IsTrue (is_some (intersection a b))
-  meets_of-some e = grind (arith, any_some, meets_of-is, length-map)
+  meets_of-some e = grind (arith, meets_of-is, length-map)
 
   pub minus-some : (0 < length (minus R xs ys)) ⊎ (length ys ≢ 1) → IsTrue (is_some (difference a b)) ⊎ (1 < length b)
-  minus-some (inl e) = inl (any_some _ (subst (λ (l : List (Span VersionValue)). 0 < length l) minus-is (rw (length-map (minus R xs ys)) e)))
-  minus-some (inr n) = inr (several b k.some (λ e. n (sym (length-map ys (span_of value)) ∙ ap length q ∙ e)))
+  minus-some (inl e) = grind (arith, minus-is, length-map)
+  minus-some (inr n) = inr (omega (arith, k.some, n, length-map ys (span_of value), ap length q))
 
   pub intervals-ordered : list_all (is_interval R) xs ≡ true
   intervals-ordered = sym (all_intervals-values R value ordered xs) ∙ ap (list_all (is_interval precedence)) p ∙ all_intervals (MAX_SAFE_INTEGER + 1) a h.each

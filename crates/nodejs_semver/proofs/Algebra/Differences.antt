@@ -1,17 +1,14 @@
 -- What is left of a list is what of each of its spans lies within what is left of the whole line.
-use Rattle.nodejs_semver.proofs.Common.{AllWithin, Bool, Bound, Cut, IsTotalOrder, List, None, Option, Ordering, Some, Span, Start}
-use Rattle.nodejs_semver.proofs.Common.{Unbounded, [], and-false, and_from, and_parts, ap, append-nil, append_assoc, ap₂, arith}
-use Rattle.nodejs_semver.proofs.Common.{below_lesser, below_upto, between, between_from, between_parts, cases_Bool, clip, cut_cmp, drop}
-use Rattle.nodejs_semver.proofs.Common.{false, flat_flat, flat_map, flat_map-append, flat_same, fold-append, get_or, get_or-drop}
-use Rattle.nodejs_semver.proofs.Common.{greater_below, greater_lower, gt_lt, if◌then◌else◌, inl, inr, irreflexive, is_interval, is_lt}
-use Rattle.nodejs_semver.proofs.Common.{is_some, is_some-interval, left_above, left_below, length, length-drop, lesser_upper, list_all, lower_cut, lt, lt_trans}
-use Rattle.nodejs_semver.proofs.Common.{minus, not, not_above, not_below, not_if, one_way, option_to_list, refl, remainder}
-use Rattle.nodejs_semver.proofs.Common.{remainders_by, subst, suc, sym, take, take_all, true, turned_lower, turned_upper, upper_cut}
-use Rattle.nodejs_semver.proofs.Common.{upto_below, zero, ℕ, ◌&&◌, ◌++◌, ◌+◌, ◌<◌, ◌∙◌, ◌∷◌, ◌≡◌, ◌≤◌}
-use Rattle.nodejs_semver.proofs.Common.{Err, IfOk, IsTrue, Result}
-use Rattle.std.specs.{List.Sorted.{IsPartitionedBy, IsPartitionPoint}, Result.{IsOkAnd, MatchResult, OnErr}}
-use Rattle.nodejs_semver.proofs.Dividing.RunLemmas.{greater_assoc, lesser_assoc}
-use Rattle.nodejs_semver.specs.Internal.Along.{IsAlong}
+use Rattle.nodejs_semver.proofs.Common.{AllWithin, Bool, Bound, Cut, Err, IfOk, IsTotalOrder, IsTrue, List, None, Option, Ordering, Result, Some}
+use Rattle.nodejs_semver.proofs.Common.{Span, Start, Unbounded, [], and-false, and_from, and_parts, ap, append-nil, append_assoc, ap₂, arith}
+use Rattle.nodejs_semver.proofs.Common.{below_lesser, below_upto, between, between_from, between_parts, cases_Bool, clip, cut_cmp, drop, false}
+use Rattle.nodejs_semver.proofs.Common.{flat_flat, flat_map, flat_map-append, flat_same, fold-append, get_or, get_or-drop, greater_below}
+use Rattle.nodejs_semver.proofs.Common.{greater_lower, gt_lt, if◌then◌else◌, inl, inr, irreflexive, is_interval, is_lt, is_some, is_some-interval}
+use Rattle.nodejs_semver.proofs.Common.{left_above, left_below, length, length-drop, lesser_upper, list_all, lower_cut, lt, minus, not, not_above}
+use Rattle.nodejs_semver.proofs.Common.{not_below, not_if, one_way, option_to_list, refl, remainder, remainders_by, subst, suc, sym, take, take_all}
+use Rattle.nodejs_semver.proofs.Common.{true, turned_lower, turned_upper, upper_cut, upto_below, zero, ℕ, ◌&&◌, ◌++◌, ◌+◌, ◌<◌, ◌∙◌, ◌∷◌, ◌≡◌, ◌≤◌}
+use Rattle.nodejs_semver.{proofs.Dividing.RunLemmas.{greater_assoc, lesser_assoc}, specs.Internal.Along.IsAlong}
+use Rattle.std.specs.{List.Sorted.{IsPartitionPoint, IsPartitionedBy}, Result.{IsOkAnd, MatchResult, OnErr}}
 
 -- one element or none
 abbrev pick : {A : Type 0} → Bool → A → List A
@@ -152,13 +149,10 @@ module _ {V : Type 0} {R : V → V → Ordering} (o : IsTotalOrder R) where
       (flat_flat (λ s. remainder R s t) (clips cs) ss ∙ flat_same _ (clips (flat_map (λ c. remainder R c t) cs))
       (λ s. clips_remainder s t cs) ss) ∙ minus_clips (flat_map (λ c. remainder R c t) cs) ss ts
 
-  -- an interval lies within the whole line
-  clips_whole : (s : Span V) → is_interval R s ≡ true → clips (whole ∷ []) s ≡ s ∷ []
-  clips_whole s h = grind arith
-
+  -- intervals lie within the whole line
   all_whole : (ss : List (Span V)) → list_all (is_interval R) ss ≡ true → flat_map (clips (whole ∷ [])) ss ≡ ss
   all_whole [] h = refl
-  all_whole (s ∷ ss) h = grind (arith, clips_whole, all_whole ss)
+  all_whole (s ∷ ss) h = grind (arith, all_whole ss)
 
   -- what is left of the line stands in order along it
   along_lower : (a b : Cut V) (cs : List (Span V)) → lt o b a ≡ false → IsAlong R b cs → IsAlong R a cs
@@ -225,26 +219,29 @@ module _ {V : Type 0} {R : V → V → Ordering} (o : IsTotalOrder R) where
       ∙ sym (fold-append (λ (left : List (Span V)) (t : Span V). flat_map (λ s. remainder R s t) left) (whole ∷ []) ts us)
       ∙ ap (λ l. minus R (whole ∷ []) l) (sym g)
 
-  -- the ends rise along the line
-  ends_past : (a : Cut V) (cs : List (Span V)) (j : ℕ) (d : Span V) → IsAlong R a cs → j < length cs → lt o (upper_cut (get_or cs j d).upper) a ≡ false
-  ends_past a [] j d h k = absurd (omega arith)
-  ends_past a (c ∷ cs) zero d h k = not_below o (lower_cut c.lower) (upper_cut c.upper) a h.1.0 h.0
-  ends_past a (c ∷ cs) (suc j) d h k =
-      grind (arith, ends_past (upper_cut c.upper) cs j d h.1.1, lt_trans, upto_below)
+  -- the beginnings and the ends rise along the line
+  all_past : (a : Cut V) (cs : List (Span V)) (j : ℕ) (d : Span V) → IsAlong R a cs → j < length cs
+      → (lt o (lower_cut (get_or cs j d).lower) a ≡ false) × (lt o (upper_cut (get_or cs j d).upper) a ≡ false)
+  all_past a [] j d h k = absurd (omega arith)
+  all_past a (c ∷ cs) zero d h k = (h.0, not_below o (lower_cut c.lower) (upper_cut c.upper) a h.1.0 h.0)
+  all_past a (c ∷ cs) (suc j) d h k =
+      grind (arith, all_past (upper_cut c.upper) cs j d h.1.1, below_upto, not_below)
 
-  ends_rise : (a : Cut V) (cs : List (Span V)) (i j : ℕ) (d : Span V) → IsAlong R a cs → i ≤ j → j < length cs
-      → lt o (upper_cut (get_or cs j d).upper) (upper_cut (get_or cs i d).upper) ≡ false
-  ends_rise a (c ∷ cs) zero zero d h l k = irreflexive o (upper_cut c.upper)
-  ends_rise a (c ∷ cs) zero (suc j) d h l k = ends_past (upper_cut c.upper) cs j d h.1.1 (omega arith)
-  ends_rise a (c ∷ cs) (suc i) (suc j) d h l k = ends_rise (upper_cut c.upper) cs i j d h.1.1 (omega arith) (omega arith)
-  ends_rise a cs i j d h l k = absurd (omega arith)
+  pub all_rise : (a : Cut V) (cs : List (Span V)) (i j : ℕ) (d : Span V) → IsAlong R a cs → i ≤ j → j < length cs
+      → (lt o (lower_cut (get_or cs j d).lower) (lower_cut (get_or cs i d).lower) ≡ false)
+      × (lt o (upper_cut (get_or cs j d).upper) (upper_cut (get_or cs i d).upper) ≡ false)
+  all_rise a (c ∷ cs) zero zero d h l k = (irreflexive o (lower_cut c.lower), irreflexive o (upper_cut c.upper))
+  all_rise a (c ∷ cs) zero (suc j) d h l k =
+      grind (arith, not_above, all_past (upper_cut c.upper) cs j d h.1.1)
+  all_rise a (c ∷ cs) (suc i) (suc j) d h l k = all_rise (upper_cut c.upper) cs i j d h.1.1 (omega arith) (omega arith)
+  all_rise a cs i j d h l k = absurd (omega arith)
 
   -- the piece ends not above where s begins
   abbrev pub falls_short : Span V → Span V → Bool
   falls_short s c = not (is_lt (cut_cmp R (lower_cut s.lower) (upper_cut c.upper)))
 
   pub parted : (s : Span V) (cs : List (Span V)) → IsAlong R Start cs → IsPartitionedBy (falls_short s) cs
-  parted s cs h i j d l k e = grind (arith, below_upto, ends_rise)
+  parted s cs h i j d l k e = grind (arith, below_upto, all_rise Start cs i j d h)
 
   -- nothing is cut where they are apart
   no_clip : (s c : Span V) → is_interval R (clipped s c) ≡ false → option_to_list (clip R s c) ≡ []

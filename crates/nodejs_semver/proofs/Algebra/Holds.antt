@@ -1,7 +1,7 @@
 -- What a range text's intervals hold is what the text writes.
 use Rattle.nodejs_semver.proofs.Common.{Bool, IsTotalOrder, List, Ordering, Run, VersionValue, [], ap₂, arith, denotes, flat_map, interval_of}
-use Rattle.nodejs_semver.proofs.Common.{is_empty, list_all, list_any, list_any-append, list_holds, map, part_denotes, parts, precedence}
-use Rattle.nodejs_semver.proofs.{Common.{precedence_total, refl, run_writes, sym, true, ℕ, ◌||◌, ◌∙◌, ◌∷◌, ◌≡◌}, Dividing.RunLemmas.run-holds}
+use Rattle.nodejs_semver.proofs.Common.{list_any, list_any-append, list_holds, map, part_denotes, precedence}
+use Rattle.nodejs_semver.proofs.{Common.{precedence_total, refl, run_writes, ℕ, ◌||◌, ◌∷◌, ◌≡◌}, Dividing.RunLemmas.run-holds}
 use Rattle.{nodejs_semver.specs.Internal.Writes.{part_writes, writes}, semver_core.proofs.Dividing.BarLemmas.parts-front}
 
 runs-hold : {V : Type 0} {R : V → V → Ordering} → IsTotalOrder R → (v : V) (rs : List (Run V))
@@ -14,14 +14,6 @@ parts-hold : (limit : ℕ) (v : VersionValue) (ps : List (List ℕ))
 parts-hold limit v [] = refl
 parts-hold limit v (p ∷ ps) = grind (arith, list_any-append, runs-hold, precedence_total, parts-hold limit v ps)
 
--- where all of some parts are empty, the first writes every version
-first-empty : (limit : ℕ) (v : VersionValue) (ps : List (List ℕ)) → (ps ≡ [] → ⊥) → list_all is_empty ps ≡ true → list_any (part_writes limit v) ps ≡ true
-first-empty limit v [] some h = absurd (some refl)
-first-empty limit v (p ∷ ps) some h = grind arith
-
--- a text has a part or more
-parts-some : (text : List ℕ) → parts text ≡ [] → ⊥
-parts-some text h = cc (sym (parts-front text) ∙ h)
-
+-- a text has a part or more: where all are empty, the first writes every version
 pub denotes_hold : (limit : ℕ) (text : List ℕ) (v : VersionValue) → list_holds precedence (denotes limit text) v ≡ writes limit text v
-denotes_hold limit text v = grind (arith, first-empty, parts-some, parts-hold)
+denotes_hold limit text v = grind (arith, parts-front text, parts-hold)

@@ -1,61 +1,32 @@
 -- Of spans that stand along the line, those that meet another one stand together.
-use Rattle.nodejs_semver.proofs.Common.{AllWithin, Bool, Cut, IsTotalOrder, List, Ordering, Span, Start, [], and_parts, all_weaker, any_under, between_from, gt_lt, is_le, list_all-append, tells, irreflexive, list_any-append, flat_map, flat_map-append, none_of, not_above, or_parts, option_to_list, subst, ap, ap₂, append-nil}
-use Rattle.nodejs_semver.proofs.Common.{arith, below_upto, between, cut_cmp, drop, false, get_or, is_interval, is_lt, is_some, is_some-interval, length}
-use Rattle.nodejs_semver.proofs.Common.{list_all, list_any, lower_cut, lt, meet, not, not-true, not_below, not_if, refl, suc, sym, take, take-append-drop}
-use Rattle.nodejs_semver.proofs.Common.{true, upper_cut, upto_below, zero, ℕ, ◌++◌, ◌+◌, ◌<◌, ◌||◌, ◌∙◌, ◌∷◌, ◌≡◌, ◌≤◌}
-use Rattle.nodejs_semver.proofs.Algebra.Differences.{falls_short}
-use Rattle.nodejs_semver.specs.Internal.Along.{IsAlong, IsNear}
-use Rattle.nodejs_semver.specs.Words.{covers}
-use Rattle.std.specs.List.Sorted.{IsPartitionedBy, IsPartitionPoint}
+use Rattle.nodejs_semver.proofs.{Algebra.Differences.{all_rise, falls_short}, Common.{AllWithin, Bool, Cut, IsTotalOrder, List, Ordering, Span}}
+use Rattle.nodejs_semver.proofs.Common.{Start, [], all_weaker, and-false, and_parts, any_under, ap, append-nil, ap₂, arith, below_upto, between}
+use Rattle.nodejs_semver.proofs.Common.{between_from, cut_cmp, drop, false, flat_map, flat_map-append, get_or, get_or-drop, gt_lt, is_interval, is_le}
+use Rattle.nodejs_semver.proofs.Common.{is_lt, is_some, is_some-interval, length, length-drop, list_all, list_all-append, list_any, list_any-append}
+use Rattle.nodejs_semver.proofs.Common.{lower_cut, lt, meet, none_of, not, not-true, not_if, option_to_list, or_parts, refl, subst, suc, sym, take}
+use Rattle.nodejs_semver.proofs.Common.{take-append-drop, tells, true, upper_cut, upto_below, ℕ, ◌&&◌, ◌++◌, ◌+◌, ◌<◌, ◌||◌, ◌∙◌, ◌∷◌, ◌≡◌}
+use Rattle.{nodejs_semver.specs.{Internal.Along.{IsAlong, IsNear}, Words.covers}, std.proofs.lemmas.List.{Folds.list_any_none, get_or-take}}
+use Rattle.std.{proofs.lemmas.List.length-take, specs.List.Sorted.{IsPartitionPoint, IsPartitionedBy}}
 
 -- a test that fails from a place on, or up to it
 none_from : {A : Type 0} (p : A → Bool) (xs : List A) (m : ℕ) → AllWithin (λ x. p x ≡ false) xs m (length xs) → list_any p (drop m xs) ≡ false
-none_from p [] zero h = refl
-none_from p [] (suc m) h = refl
-none_from p (x ∷ xs) zero h =
-    grind (arith, h 0 x, none_from p xs zero (λ i d a b. h (suc i) d (omega arith) (omega arith)))
-none_from p (x ∷ xs) (suc m) h = none_from p xs m (λ i d a b. h (suc i) d (omega arith) (omega arith))
+none_from p xs m h = list_any_none p (drop m xs) (λ i d l. grind (arith, get_or-drop m xs i d, length-drop, h (m + i) d))
 
 none_upto : {A : Type 0} (p : A → Bool) (xs : List A) (m : ℕ) → AllWithin (λ x. p x ≡ false) xs 0 m → list_any p (take m xs) ≡ false
-none_upto p [] zero h = refl
-none_upto p [] (suc m) h = refl
-none_upto p (x ∷ xs) zero h = refl
-none_upto p (x ∷ xs) (suc m) h =
-    grind (arith, h 0 x, none_upto p xs m (λ i d a b. h (suc i) d (omega arith) (omega arith)))
+none_upto p xs m h = list_any_none p (take m xs) (λ i d l. grind (arith, get_or-take m xs i d, length-take m xs, h i d))
 
 module _ {V : Type 0} {R : V → V → Ordering} (o : IsTotalOrder R) where
   abbrev meets : Span V → Span V → Bool
   meets s t = is_some (meet R s t)
 
   -- what ends not above where s begins does not meet it, nor what begins not below where it ends
-  short_apart : (s t : Span V) → lt o (lower_cut s.lower) (upper_cut t.upper) ≡ false → meets s t ≡ false
-  short_apart s t h = grind (arith, is_some-interval, between)
-
-  past_apart : (s t : Span V) → lt o (lower_cut t.lower) (upper_cut s.upper) ≡ false → meets s t ≡ false
-  past_apart s t h = grind (arith, is_some-interval, between)
-
-  -- the beginnings rise along the line
-  begins_past : (a : Cut V) (cs : List (Span V)) (j : ℕ) (d : Span V) → IsAlong R a cs → j < length cs → lt o (lower_cut (get_or cs j d).lower) a ≡ false
-  begins_past a [] j d h k = absurd (omega arith)
-  begins_past a (c ∷ cs) zero d h k = h.0
-  begins_past a (c ∷ cs) (suc j) d h k =
-      grind (arith, begins_past (upper_cut c.upper) cs j d h.1.1, below_upto, not_below)
-
-  begins_rise : (a : Cut V) (cs : List (Span V)) (i j : ℕ) (d : Span V) → IsAlong R a cs → i ≤ j → j < length cs
-      → lt o (lower_cut (get_or cs j d).lower) (lower_cut (get_or cs i d).lower) ≡ false
-  begins_rise a (c ∷ cs) zero zero d h l k = irreflexive o (lower_cut c.lower)
-  begins_rise a (c ∷ cs) zero (suc j) d h l k =
-      grind (arith, not_above, begins_past (upper_cut c.upper) cs j d h.1.1)
-  begins_rise a (c ∷ cs) (suc i) (suc j) d h l k = begins_rise (upper_cut c.upper) cs i j d h.1.1 (omega arith) (omega arith)
-  begins_rise a cs i j d h l k = absurd (omega arith)
+  apart : (s t : Span V) → (lt o (lower_cut s.lower) (upper_cut t.upper) && lt o (lower_cut t.lower) (upper_cut s.upper)) ≡ false → meets s t ≡ false
+  apart s t h = grind (arith, is_some-interval, between)
 
   pub begins_parted : (s : Span V) (a : Cut V) (cs : List (Span V)) → IsAlong R a cs
       → IsPartitionedBy (λ c. is_lt (cut_cmp R (lower_cut c.lower) (upper_cut s.upper))) cs
   begins_parted s a cs h i j d l k e =
-      upto_below o (lower_cut (get_or cs i d).lower) (lower_cut (get_or cs j d).lower) (upper_cut s.upper) (begins_rise a cs i j d h l k) e
-
-  none_below : (a : Cut V) → lt o a Start ≡ false
-  none_below a = grind arith
+      upto_below o (lower_cut (get_or cs i d).lower) (lower_cut (get_or cs j d).lower) (upper_cut s.upper) (all_rise o a cs i j d h l k).0 e
 
   along_at : (a : Cut V) (cs : List (Span V)) → list_all (is_interval R) cs ≡ true
       → ((d : Span V) → 0 < length cs → lt o (lower_cut (get_or cs 0 d).lower) a ≡ false)
@@ -70,7 +41,7 @@ module _ {V : Type 0} {R : V → V → Ordering} (o : IsTotalOrder R) where
   pub along_from : (cs : List (Span V)) → list_all (is_interval R) cs ≡ true
       → ((k : ℕ) (d : Span V) → k + 1 < length cs → not (lt o (lower_cut (get_or cs (k + 1) d).lower) (upper_cut (get_or cs k d).upper)) ≡ true)
       → IsAlong R Start cs
-  along_from cs h k = along_at Start cs h (λ d l. none_below (lower_cut (get_or cs 0 d).lower))
+  along_from cs h k = along_at Start cs h (λ d l. grind arith)
       (λ i d l. subst (λ n. lt o (lower_cut (get_or cs n d).lower) (upper_cut (get_or cs i d).upper) ≡ false) (omega arith)
       (not-true _ (k i d (omega arith))))
 
@@ -85,12 +56,9 @@ module _ {V : Type 0} {R : V → V → Ordering} (o : IsTotalOrder R) where
     front = take p cs;
     back = drop q behind;
     is = sym (ap₂ (λ x y. take p cs ++ (x ++ y)) f refl ∙ ap (λ l. take p cs ++ l) (take-append-drop _ _ ∙ e) ∙ take-append-drop _ _);
-    before = none_upto (meets s) cs p (λ i d a b. short_apart s (get_or cs i d) (not-true _ (h.0 i d a b)));
-    behind = none_from (meets s) behind q (λ i d a b. past_apart s (get_or behind i d) (k.1 i d a b));
+    before = none_upto (meets s) cs p (λ i d a b. apart s (get_or cs i d) (grind (arith, h.0 i d a b)));
+    behind = none_from (meets s) behind q (λ i d a b. apart s (get_or behind i d) (rw (k.1 i d a b) (and-false _)));
   }
-
-implied : (p q : Bool) → (p ≡ true → q ≡ true) → (not p || q) ≡ true
-implied p q h = grind arith
 
 upto_not : {V : Type 0} {R : V → V → Ordering} (o : IsTotalOrder R) (a b : Cut V) → is_le (cut_cmp R a b) ≡ true → lt o b a ≡ false
 upto_not o a b h = grind (arith, gt_lt, tells)
@@ -113,7 +81,7 @@ module _ {V : Type 0} (R : V → V → Ordering) (s : Span V) where
   none_any : (p : Span V → Bool) → ((t : Span V) → is_interval R t ≡ true → p t ≡ true → is_some (meet R s t) ≡ true) → (xs : List (Span V))
       → list_all (is_interval R) xs ≡ true → list_any (λ t. is_some (meet R s t)) xs ≡ false → list_any p xs ≡ false
   none_any p h xs k e = not_if _ _ (λ m. any_under p (λ t. is_some (meet R s t)) xs m
-      (all_weaker (is_interval R) (λ t. not (p t) || is_some (meet R s t)) (λ t i. implied (p t) _ (h t i)) xs k)) e
+      (all_weaker (is_interval R) (λ t. not (p t) || is_some (meet R s t)) (λ t i. grind (arith, h t i)) xs k)) e
 
   pub any_near : (ts near : List (Span V)) (p : Span V → Bool) → ((t : Span V) → is_interval R t ≡ true → p t ≡ true → is_some (meet R s t) ≡ true)
       → list_all (is_interval R) ts ≡ true → IsNear R s ts near → list_any p ts ≡ list_any p near

@@ -1,13 +1,9 @@
 -- What is read of bounds: no number is above the limit by more than one, and identifiers are what their texts spell.
-use Rattle.nodejs_semver.proofs.Common.{AreComponents, Front, Id, IsBuild, IsPreRelease, List, None, Option, Partial}
-use Rattle.nodejs_semver.proofs.Common.{Sign, Some, Word, arith, bind_some, caret, compare, cond_some, hyphen}
-use Rattle.nodejs_semver.proofs.Common.{is_normal, list_all, malformed, partial_front, plain, refl}
-use Rattle.nodejs_semver.proofs.Common.{same_Some, sign_at, tilde, true, upper_of, word_at, ℕ, ◌≡◌, ◌≤◌}
+use Rattle.nodejs_semver.proofs.Common.{AreComponents, Front, Id, IsBuild, IsPreRelease, List, None, Option, Partial, Sign, Some, Word, arith}
+use Rattle.nodejs_semver.proofs.Common.{bind_some, caret, compare, cond_some, hyphen, is_normal, list_all, malformed, partial_front, plain, refl}
+use Rattle.nodejs_semver.proofs.{Common.{same_Some, sign_at, tilde, true, upper_of, word_at, ℕ, ◌≡◌, ◌≤◌}, Reading.PartialLaw.front-read}
 use Rattle.nodejs_semver.specs.Internal.Words.{at_boundary, behind_sign, or_else, or_malformed, signed_word, word_behind}
-use Rattle.nodejs_semver.specs.Text.PartialText.{IsComponent}
-use Rattle.semver_core.specs.Internal.Reading.{◌>>?◌}
-use Rattle.nodejs_semver.proofs.Reading.PartialLaw.{front-read}
-use Rattle.semver_core.proofs.Normal.{identifiers-normal}
+use Rattle.{nodejs_semver.specs.Text.PartialText.IsComponent, semver_core.{proofs.Normal.identifiers-normal, specs.Internal.Reading.◌>>?◌}}
 
 pre_release-normal : (text rest : List ℕ) (ids : List Id) → IsPreRelease text rest ids → list_all is_normal ids ≡ true
 pre_release-normal text rest ids h = grind (arith, identifiers-normal)

@@ -1,8 +1,7 @@
 -- For proofs. The bounds that the table gives a word that is no hyphen word make an interval.
 use Rattle.nodejs_semver.proofs.{Bounds.TableRows.table-interval, Common.{IfSome, List, Option, Some, Span, VersionValue, Word, arith, interval}}
 use Rattle.nodejs_semver.{proofs.Common.{is_interval, precedence, refl, sym, table, true, ℕ, ◌≡◌}, specs.Internal.CommonFronts.part_read}
-use Rattle.{nodejs_semver.specs.Internal.Readings.table_view, semver_pieces.specs.Internal.Views.bounds_view}
-use Rattle.semver_pieces.specs.declared.bounds.Bounds.{Bounds}
+use Rattle.{nodejs_semver.specs.Internal.Readings.table_view, semver_pieces.specs.{Internal.Views.bounds_view, declared.bounds.Bounds.Bounds}}
 
 kept : (s : Span VersionValue) → is_interval precedence s ≡ true → interval precedence s ≡ Some s
 kept s h = rw h refl

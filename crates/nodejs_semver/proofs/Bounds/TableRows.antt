@@ -1,12 +1,10 @@
 -- For proofs. What the rows of the word table give: intervals, whose bounds are such as a range may have.
-use Rattle.nodejs_semver.proofs.Common.{After, Before, Bool, Bound, Comparator, Id, Less, List, None, Option, Partial, Some, Span}
-use Rattle.nodejs_semver.proofs.Common.{VersionValue, Word, above, above_patch, and_from, arith, at_most, below, caret, compare}
-use Rattle.nodejs_semver.proofs.Common.{equal, hyphen, interval, is_interval, is_normal, is_range_bound, is_readable, list_all}
-use Rattle.nodejs_semver.proofs.Common.{lowest, malformed, plain, precedence, precedence_total, refl, release_value, row, suc}
-use Rattle.nodejs_semver.proofs.Common.{table, tied_itself, tilde, true, version_of, without_build, zero, ℕ, ◌&&◌, ◌+◌, ◌≡◌, ◌≤◌}
-use Rattle.std.specs.Prelude.{unwrap_or}
-use Rattle.semver_core.specs.Internal.Successors.{above_major, above_minor}
-use Rattle.nodejs_semver.proofs.Bounds.Bounded.{Fine, FineWord, Fits}
+use Rattle.nodejs_semver.proofs.{Bounds.Bounded.{Fine, FineWord, Fits}, Common.{After, Before, Bool, Bound, Comparator, Id, Less, List, None, Option}}
+use Rattle.nodejs_semver.proofs.Common.{Partial, Some, Span, VersionValue, Word, above, above_patch, and_from, arith, at_most, below, caret, compare}
+use Rattle.nodejs_semver.proofs.Common.{cond_some, equal, hyphen, interval, is_interval, is_normal, is_range_bound, is_readable, list_all, lowest}
+use Rattle.nodejs_semver.proofs.Common.{malformed, plain, precedence, precedence_total, refl, release_value, row, suc, table, tied_itself, tilde}
+use Rattle.nodejs_semver.proofs.Common.{true, version_of, without_build, zero, ℕ, ◌&&◌, ◌+◌, ◌≡◌, ◌≤◌}
+use Rattle.{semver_core.specs.Internal.Successors.{above_major, above_minor}, std.specs.Prelude.unwrap_or}
 
 -- ---- the versions of the table
 
@@ -109,16 +107,14 @@ module _ (limit : ℕ) (q : Partial) (x y : List Id) where
 
 -- ---- hyphen words, whose bounds the row tests
 
-tested : (s t : Span VersionValue) (P : Span VersionValue → Type 0) → interval precedence s ≡ Some t → (is_interval precedence s ≡ true → P s) → P t
-tested s t P e h = grind arith
-
 abbrev Tested : ℕ → Partial → Partial → Span VersionValue → Type 0
 Tested limit p q t = (is_interval precedence t ≡ true) × (Fine limit p → Fine limit q → are_bounds (limit + 1) t ≡ true)
 
 upper-good : (limit : ℕ) (p q : Partial) (b : Bound VersionValue) (t : Span VersionValue) → (Fine limit q → is_range_bound (limit + 1) b ≡ true)
     → interval precedence (record { lower = Before (version_of p); upper = b }) ≡ Some t → Tested limit p q t
-upper-good limit p q b t h e = tested (record { lower = Before (version_of p); upper = b }) t (Tested limit p q) e
-    (λ i. (i, λ f g. and_from _ _ (version-is limit p f) (h g)))
+upper-good limit p q b t h e =
+    let s = cond_some _ (record { lower = Before (version_of p); upper = b }) t e in
+    rw (← s.1) (s.0, λ f g. and_from _ _ (version-is limit p f) (h g))
 
 hyphen-good : (limit : ℕ) (p : Partial) (a b c : Option ℕ) (x y : List Id) (t : Span VersionValue)
     → row limit (hyphen p (made a b c x y)) a b c (version_of (made a b c x y)) ≡ Some t → Tested limit p (made a b c x y) t

@@ -1,18 +1,18 @@
 -- Where the reader of numbers stops, the text is wrong there and has no version.
-use Rattle.nodejs_semver.proofs.Common.{Id, IfSome, IsAfterBlank, IsNumber, IsUtf8, List, None, Option, Some, VersionValue, [], ap}
-use Rattle.nodejs_semver.proofs.Common.{append_assoc, arith, begins, cases_Bool, drop, drop_all, drop_more, encode_utf8, eqb, eqb-true, false}
-use Rattle.nodejs_semver.proofs.Common.{is_ascii_digit, length, length-append, length-drop, list_all, nat_tests, refl, space_len, subst, suc, sym}
-use Rattle.nodejs_semver.proofs.Common.{take, take_rest, true, zero, ℕ, ◌*◌, ◌++◌, ◌+◌, ◌-◌, ◌<◌, ◌==◌, ◌↔◌, ◌∙◌, ◌∷◌, ◌≡◌, ◌≤◌}
-use Rattle.nodejs_semver.proofs.Diagnosing.OneFlaw.{HasTail, Leads, Numbers, Numeral, Place, begins_alike, digits_once, first_numeral, lead_place}
-use Rattle.nodejs_semver.{proofs.Diagnosing.OneFlaw.{next_place, numeral_begins, numeral_once, only_flaw}, specs.Diagnosis.VersionFlaws.IsExact}
-use Rattle.nodejs_semver.specs.{Diagnosis.VersionFlaws.{IsExpectedAt, IsFlaw, IsFront, IsGreatAt}, Internal.Stuck.{BeginsGreat, IsWhole, Stuck}}
-use Rattle.nodejs_semver.specs.{Internal.Stuck.{at_digit, at_dot, at_great, begins_dot, later}, declared.diagnosis.versions.VersionFlaw.VersionFlaw}
-use Rattle.semver_core.proofs.{Reading.Boundaries.spaces-gone, Text.{Pieces.{digits_grow, some_inside}, Texts.{build_complete, divided_at, mark_is}}}
-use Rattle.semver_core.{proofs.Text.{Texts.{number_begins, pre_complete, triple_complete}, Trims.after_blank_drops_spaces}, specs.Failures.NoValue}
-use Rattle.semver_core.specs.Internal.{Fronts.{begins_byte, build_front, marked_list, pre_release_front}, Reading.{build_at, list_at, mark_len}}
-use Rattle.semver_core.specs.{Internal.Reading.{or_nothing, pre_release_at, qualified, triple_at}, Text.VersionText.Reads}
-use Rattle.{semver_core.specs.declared.TheConstants.MAX_LENGTH, std.proofs.{Common.{MatchOption, slice_range}, Math.Seq.{take-add, take-append_seam}}}
-use Rattle.std.{proofs.lemmas.List.{drop-drop, take-append-drop}, specs.{Char.digit_value, Str.Parse.{digits_value, digits_value_after}}}
+use Rattle.nodejs_semver.proofs.Common.{IfSome, IsAfterBlank, IsNumber, IsUtf8, List, None, Option, Some, VersionValue, [], ap, append_assoc, arith}
+use Rattle.nodejs_semver.proofs.Common.{begins, cases_Bool, drop, drop_all, drop_more, encode_utf8, eqb, eqb-true, false, is_ascii_digit, length}
+use Rattle.nodejs_semver.proofs.Common.{length-append, length-drop, list_all, nat_tests, refl, space_len, subst, suc, sym, take, take_rest, true}
+use Rattle.nodejs_semver.proofs.{Common.{zero, ℕ, ◌*◌, ◌++◌, ◌+◌, ◌-◌, ◌<◌, ◌==◌, ◌↔◌, ◌∙◌, ◌∷◌, ◌≡◌, ◌≤◌}, Diagnosing.OneFlaw.{HasTail, Leads}}
+use Rattle.nodejs_semver.proofs.Diagnosing.OneFlaw.{Numbers, Numeral, Place, begins_alike, first_numeral, lead_place, next_place, no_flaw}
+use Rattle.nodejs_semver.{proofs.Diagnosing.OneFlaw.{numeral_begins, numeral_once, only_flaw}, specs.Diagnosis.VersionFlaws.{IsExact, IsExpectedAt}}
+use Rattle.nodejs_semver.specs.{Diagnosis.VersionFlaws.{IsFlaw, IsFront, IsGreatAt}, Internal.Stuck.{IsWhole, Stuck, at_digit, at_dot, at_great}}
+use Rattle.nodejs_semver.specs.{Internal.Stuck.{begins_dot, later}, declared.diagnosis.versions.VersionFlaw.VersionFlaw}
+use Rattle.semver_core.proofs.{Reading.Boundaries.spaces-gone, Text.{Pieces.digits_grow, Texts.{divided_at, mark_is, number_begins}}}
+use Rattle.semver_core.{proofs.Text.Trims.after_blank_drops_spaces, specs.{Failures.NoValue, Internal.Fronts.{begins_byte, build_front, marked_list}}}
+use Rattle.semver_core.specs.Internal.{Fronts.pre_release_front, Reading.{build_at, list_at, mark_len, or_nothing, pre_release_at, qualified}}
+use Rattle.semver_core.specs.{Internal.Reading.triple_at, Text.{Parsing.Parses, VersionText.Reads}, declared.TheConstants.MAX_LENGTH}
+use Rattle.std.proofs.{Common.{MatchOption, slice_range}, Math.Seq.{take-add, take-append_seam}, lemmas.List.{drop-drop, take-append-drop}}
+use Rattle.std.specs.{Char.digit_value, Str.Parse.{digits_value, digits_value_after}}
 use Rattle.nodejs_semver.specs.declared.diagnosis.versions.VersionFlaw.TheVariants as Flaw
 
 -- so many dots and zeros
@@ -75,28 +75,15 @@ grown v [] e x y each ended same = digits_grow v e
 grown v (c ∷ d) [] x y each ended same = grind arith
 grown v (c ∷ d) (b ∷ e) x y each ended same = grind (arith, grown (v * 10 + digit_value c) d e x y)
 
-no-great : (limit : ℕ) (Starts : List ℕ → Type 0) (front : List ℕ) (k : ℕ) → Place limit Starts front k → (text : List ℕ)
-    → Starts text → BeginsGreat limit text → NoValue (Reads limit (front ++ text))
-no-great limit Starts front k p text s g = λ v r.
+-- digits of a number that is too great, whatever follows them
+no-great : (limit : ℕ) (Starts : List ℕ → Type 0) (front : List ℕ) (k : ℕ) → Place limit Starts front k → (d rest : List ℕ)
+    → list_all is_ascii_digit d ≡ true → limit < digits_value 10 d → NoValue (Reads limit (front ++ (d ++ rest)))
+no-great limit Starts front k p d rest each above = λ v r.
     let tail = r.pre_release ++ (r.build ++ r.rest) in
-    let found = first_numeral limit k text tail (p.only text tail s (v, r, refl)) in
+    let starts = p.digit (d ++ rest) (great-begins limit d rest each above) in
+    let found = first_numeral limit k (d ++ rest) tail (p.only (d ++ rest) tail starts (v, r, refl)) in
     let m = found.1 in
-    let same = digits_once g.0 m.digits g.1 found.0 g.3 m.is.number.each g.4 m.is.ended
-    (sym g.2 ∙ m.divided) in
-    absurd (omega (arith, g.5, m.is.number.value, m.is.number.safe, ap (λ (d : List ℕ). digits_value 10 d) same.0))
-
--- the digits of a number are not read as the front of another
-no-great-front : (limit : ℕ) (Starts : List ℕ → Type 0) (front : List ℕ) (k : ℕ) → Place limit Starts front k → (text : List ℕ)
-    → (g : BeginsGreat limit text) → IsFront limit (front ++ g.0) → ⊥
-no-great-front limit Starts front k p text g f =
-    let whole = subst (λ (t : List ℕ). IsWhole limit t) (append_assoc front g.0 f.0) f.1 in
-    let begun = great-begins limit g.0 f.0 g.3 g.5 in
-    let tail = whole.1.pre_release ++ (whole.1.build ++ whole.1.rest) in
-    let found = first_numeral limit k (g.0 ++ f.0) tail
-    (p.only (g.0 ++ f.0) tail (p.digit (g.0 ++ f.0) begun) (whole.0, whole.1, refl)) in
-    let m = found.1 in
-    let most = grown 0 g.0 m.digits f.0 found.0 g.3 m.is.ended m.divided in
-    absurd (omega (arith, g.5, m.is.number.value, m.is.number.safe, most))
+    absurd (omega (arith, above, m.is.number.value, m.is.number.safe, grown 0 d m.digits rest found.0 each m.is.ended m.divided))
 
 no-dot : (limit : ℕ) (Starts : List ℕ → Type 0) (front d : List ℕ) (n k : ℕ) → Place limit Starts front (suc k)
     → IsNumber limit d n → (text : List ℕ)
@@ -141,8 +128,8 @@ stuck_wrong limit text Starts k at flaw nine inside p s (at_great j a great) = r
   inside = inside;
   right = right-digit limit Starts (take a text) j nine p;
   great = great;
-  wrong = no-great-front limit Starts (take a text) j p (drop a text) great;
-  none = here limit text a (no-great limit Starts (take a text) j p (drop a text) s great);
+  wrong = λ f. let w = rw append_assoc at f.1 in no-great limit Starts (take a text) j p great.0 f.0 great.3 great.5 w.0 w.1;
+  none = here limit text a (rw great.2 (no-great limit Starts (take a text) j p great.0 great.1 great.3 great.5));
   no_dot = no-dot-yet limit Starts (take a text) j p;
   begun = p.begun;
 }
@@ -272,71 +259,36 @@ pub ended : (limit : ℕ) (text bytes : List ℕ) (read built : List ℕ × List
     → IsLeft limit text start built.1
 ended limit text bytes read built start end same t pre build = grind (arith, nat_tests, build-left, take_rest, pre-left)
 
-whole_exact : (limit : ℕ) (text : List ℕ) (start at : ℕ) → IsUtf8 text → IsAfterBlank text (mark_len text) start
-    → length text ≤ MAX_LENGTH → Ended limit text start at → drop at text ≡ [] → IsExact limit text
-whole_exact limit text start at utf8 a short e none =
+-- the version of such a text, and what is left behind it
+parsed : (limit : ℕ) (text : List ℕ) (start at : ℕ) → IsUtf8 text → IsAfterBlank text (mark_len text) start
+    → length text ≤ MAX_LENGTH → Ended limit text start at
+    → (v : VersionValue) × (p : Parses limit text v) × (p.reads.rest ≡ drop at text)
+parsed limit text start at utf8 a short e =
     let b = begun limit text start utf8 a in
     let d = divided_at limit text (take (mark_len text) text) (slice_range text (mark_len text) start) start e.numbers b.divided
     (mark_is text) a.blank e.triple in (
       qualified text e.numbers,
       record { short = short; reads = d.reads },
-      d.rest_is ∙ (ap (λ (n : ℕ). drop n text) (sym e.place) ∙ none),
+      d.rest_is ∙ ap (λ (n : ℕ). drop n text) (sym e.place),
     )
-
-ignored_behind : (limit : ℕ) (text : List ℕ) (start at : ℕ) → IsUtf8 text → IsAfterBlank text (mark_len text) start
-    → length text ≤ MAX_LENGTH
-    → Ended limit text start at → at < length text → IsFlaw limit text (Flaw.Ignored at) × (IsExact limit text → ⊥)
-ignored_behind limit text start at utf8 a short e some =
-    let b = begun limit text start utf8 a in
-    let d = divided_at limit text (take (mark_len text) text) (slice_range text (mark_len text) start) start e.numbers b.divided
-    (mark_is text) a.blank e.triple in (
-      (
-        qualified text e.numbers,
-        record { short = short; reads = d.reads },
-        d.rest_is ∙ ap (λ (n : ℕ). drop n text) (sym e.place),
-        some,
-      ),
-      λ x. not b x.0 x.1.reads x.2,
-    )
-  where
-    not : Begun limit text start → (v : VersionValue) (r : Reads limit text v) → r.rest ≡ [] → ⊥
-    not b v r none =
-        let tail = r.pre_release ++ (r.build ++ r.rest) in
-        let n = b.place.only (drop start text) tail b.leads
-        (subst (λ (t : List ℕ). HasTail limit t tail) (sym (take-append-drop start text)) (v, r, refl)) in
-        let x = n.1 in
-        let y = n.2.1 in
-        let z = n.2.2 in
-        let three = triple_complete limit text start x.n y.n z.n x.digits y.digits z.digits tail
-        (x.divided ∙ ap (λ (t : List ℕ). x.digits ++ 46 ∷ t) (y.divided ∙ ap (λ (t : List ℕ). y.digits ++ 46 ∷ t) z.divided))
-        x.is.number y.is.number z.is in
-        let pre = pre_complete text three.0 r.pre_release (r.build ++ r.rest) v.pre_release three.2 r.pre_release_is in
-        let meta = build_complete text (three.0 + length r.pre_release) r.build r.rest v.build pre.1 r.build_is in
-        let same : e.numbers ≡ (x.n, y.n, z.n, three.0) = some_inside _ _ (sym e.triple ∙ three.1) in
-        let place : at ≡ three.0 + length r.pre_release + length r.build =
-        e.place ∙ (ap (λ (t : ℕ × ℕ × ℕ × ℕ). (build_at text (pre_release_at text t.3).1).1) same
-        ∙ (ap (λ (q : List Id × ℕ). (build_at text q.1).1) pre.0 ∙ ap (λ (q : List Id × ℕ). q.1) meta.0)) in
-        omega (arith, some, place, length-drop at text, ap length (ap (λ (m : ℕ). drop m text) place ∙ (meta.1 ∙ none)))
 
 -- where nothing is left, and where something is
 pub whole_left : (limit : ℕ) (text : List ℕ) (start : ℕ) (ignored : List ℕ) → IsUtf8 text
     → IsAfterBlank text (mark_len text) start
     → length text ≤ MAX_LENGTH → IsLeft limit text start ignored → length ignored ≡ 0 → IsExact limit text
 whole_left limit text start ignored utf8 a short e none =
-    whole_exact limit text start e.0 utf8 a short e.1 (sym e.2 ∙ empty ignored none)
+    let p = parsed limit text start e.0 utf8 a short e.1 in (p.0, p.1, p.2 ∙ (sym e.2 ∙ empty ignored none))
   where
     empty : (t : List ℕ) → length t ≡ 0 → t ≡ []
     empty [] h = refl
     empty (b ∷ t) h = absurd (omega (arith, h))
 
-pub left_fits : (limit : ℕ) (text : List ℕ) (start : ℕ) (ignored : List ℕ) → IsLeft limit text start ignored
-    → length ignored ≤ length text
-left_fits limit text start ignored e = omega (arith, ap length e.2, length-drop e.0 text)
-
 pub ignored_left : (limit : ℕ) (text : List ℕ) (start n : ℕ) (ignored : List ℕ) → IsUtf8 text
     → IsAfterBlank text (mark_len text) start → length text ≤ MAX_LENGTH → IsLeft limit text start ignored → 0 < length ignored
     → n ≡ length text - length ignored → IsFlaw limit text (Flaw.Ignored n) × (IsExact limit text → ⊥)
 ignored_left limit text start n ignored utf8 a short e some place =
+    let p = parsed limit text start e.0 utf8 a short e.1 in
     let len : length ignored ≡ length text - e.0 = ap length e.2 ∙ length-drop e.0 text in
     let same : n ≡ e.0 = omega (arith, some, len, place) in
-    rw same (ignored_behind limit text start e.0 utf8 a short e.1 (omega (arith, some, len)))
+    let flaw : IsFlaw limit text (Flaw.Ignored e.0) = (p.0, p.1, p.2, omega (arith, some, len)) in
+    rw same (flaw, λ x. no_flaw limit text (Flaw.Ignored e.0) x flaw)

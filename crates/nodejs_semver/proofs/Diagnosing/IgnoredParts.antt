@@ -1,10 +1,10 @@
 -- What is computed of the ignored words of a text, part by part, is what the statement says of them.
 use Rattle.nodejs_semver.proofs.Common.{AllByRecursion, Bool, IsTrim, IsUtf8, List, MAX_SAFE_INTEGER, None, Option, Partial, Result, Sign, Some, Span}
-use Rattle.nodejs_semver.proofs.Common.{VersionValue, Word, [], and_parts, ap, append_assoc, arith, common_steps, cut_bars, drop_end_spaces}
+use Rattle.nodejs_semver.proofs.Common.{VersionValue, Word, [], ap, append_assoc, arith, common_steps, cut_bars, drop_end_spaces}
 use Rattle.nodejs_semver.proofs.Common.{drop_spaces, drop_spaces-blank, empty_is, encode_utf8_all, encodes-append, false, if◌then◌else◌, inl, inr}
 use Rattle.nodejs_semver.proofs.Common.{is_empty, is_some, length, length-append, length-drop, length-take-le, list_all, malformed, middle_is_trim}
-use Rattle.nodejs_semver.proofs.Common.{nat_tests, refl, rest_view, space_len, subst, suc, sym, table, trim, trim_is_middle, true, word_at, words}
-use Rattle.nodejs_semver.proofs.{Common.{words_within, zero, ℕ, ◌&&◌, ◌++◌, ◌+◌, ◌-◌, ◌<◌, ◌↔◌, ◌∷◌, ◌≡◌, ◌≤◌, ◌⊎◌}, Dividing.MeaningLaw.words-law}
+use Rattle.nodejs_semver.proofs.Common.{nat_tests, refl, rest_view, space_len, suc, table, trim, trim_is_middle, true, word_at, words}
+use Rattle.nodejs_semver.proofs.{Common.{words_within, zero, ℕ, ◌++◌, ◌+◌, ◌-◌, ◌<◌, ◌↔◌, ◌∷◌, ◌≡◌, ◌≤◌, ◌⊎◌}, Dividing.MeaningLaw.words-law}
 use Rattle.nodejs_semver.{proofs.Reading.{PartialLaw.word-shorter, WordLaw.{word-utf8, words_are}}, specs.Diagnosis.IgnoredWords.AreAllIgnored}
 use Rattle.nodejs_semver.specs.Diagnosis.IgnoredWords.{AreIgnored, AreIgnoredOf, IsWhollyBounded, if_ignored, ignored_as, next_piece, next_word}
 use Rattle.nodejs_semver.specs.{Diagnosis.IgnoredWords.{no_piece, no_word}, Internal.Ignored.{all_ignored, ignored_behind, ignored_of}}
@@ -98,9 +98,6 @@ pub record Sizes (text : List ℕ) (cut : List ℕ × Option (List ℕ)) : Type 
   pub both : length cut.0 + left_over cut.1 ≤ length text
   pub behind : (t : List ℕ) → cut.1 ≡ Some t → length cut.0 + 2 + length t ≡ length text
 
-cut_sizes : (text : List ℕ) → Sizes text (front_part text)
-cut_sizes text = grind (arith, bars_room, length-take-le, length-drop)
-
 trim-le : (text : List ℕ) → length (drop_end_spaces text) ≤ length text
 unfolding drop_end_spaces
 trim-le [] = omega arith
@@ -113,16 +110,15 @@ part_ends place start piece part h e = grind (arith, nat_tests, common_steps)
 pub part_fits : (piece : List ℕ) (place : ℕ) → part_end place piece ≤ place + length piece
 part_fits piece place = omega (arith, trim-le (drop_spaces piece), spaces-le piece)
 
--- the same of what was read
 pub sizes_of : (text : List ℕ) (cut : List ℕ × Option (List ℕ)) → cut ≡ front_part text → Sizes text cut
-sizes_of text cut e = subst (λ (c : List ℕ × Option (List ℕ)). Sizes text c) (sym e) (cut_sizes text)
+sizes_of text cut e = grind (arith, bars_room, length-take-le, length-drop)
 
 -- those of a text are those of the part at its front and of the text behind
 pub all_step : (limit end : ℕ) (text : List ℕ) (cut : List ℕ × Option (List ℕ)) → cut ≡ front_part text → length text ≤ end
     → ignored_behind limit end (Some text)
     ≡ ignored_of limit (part_end (end - length text) cut.0) (trim cut.0) ++ ignored_behind limit end cut.1
 unfolding all_ignored
-all_step limit end text cut e le = grind (arith, cut_bars-front, cut_sizes)
+all_step limit end text cut e le = grind (arith, cut_bars-front, sizes_of)
 
 -- ---- what is computed of the ignored words of a text is what the statement says of them
 
@@ -157,18 +153,10 @@ piece-read : (limit place : ℕ) (piece : List ℕ) → IsUtf8 piece → (t : Is
     → AreIgnoredOf limit (place + length (encode_utf8_all t.before) + length (trim piece)) (trim piece)
     (ignored_of limit (part_end place piece) (trim piece))
 piece-read limit place piece u t = elim (part-begins piece (trim piece) t) [
-  | inl none ↦
-      let nil = λ (at : ℕ). ignored_nil limit at (trim piece) (ap length none) in
-      rw (nil (part_end place piece)) (rw (nil end) at (read end))
-  | inr same ↦ rw (← same) (read (part_end place piece))
+  | inl none ↦ rw (none, ignored_nil) no_word
+  | inr same ↦ rw (← same) (ignored-read limit (part_end place piece) (length (trim piece)) (trim piece)
+      (trim-utf8 piece (trim piece) u t) (trim-starts piece (trim piece) t) (omega arith))
 ]
-  where
-    end : ℕ
-    end = place + length (encode_utf8_all t.before) + length (trim piece)
-
-    read : (at : ℕ) → AreIgnoredOf limit at (trim piece) (ignored_of limit at (trim piece))
-    read at = ignored-read limit at (length (trim piece)) (trim piece) (trim-utf8 piece (trim piece) u t)
-        (trim-starts piece (trim piece) t) (omega arith)
 
 all-read : (limit place : ℕ) (pieces : List (List ℕ)) → AllByRecursion IsUtf8 pieces
     → AreAllIgnored limit place pieces (all_ignored limit place pieces)
@@ -190,15 +178,12 @@ if-empty : (limit : ℕ) (word : Word) (start end : ℕ)
 unfolding table
 if-empty limit word start end = grind arith
 
-append-empty : (xs ys : List IgnoredWord) → is_empty (xs ++ ys) ≡ (is_empty xs && is_empty ys)
-append-empty xs ys = grind arith
-
 within-empty : (limit place n : ℕ) (text : List ℕ)
     → is_empty (ignored_within limit place n text) ≡ list_all (has_bounds limit) (words_within limit n text)
 unfolding ignored_within words_within
 within-empty limit place zero text = refl
 within-empty limit place (suc n) [] = refl
-within-empty limit place (suc n) (b ∷ text) = grind (arith, nat_tests, append-empty, within-empty limit place n, if-empty)
+within-empty limit place (suc n) (b ∷ text) = grind (arith, nat_tests, within-empty limit place n, if-empty)
 
 abbrev bounded : ℕ → List ℕ → Bool
 bounded limit piece = list_all (has_bounds limit) (words limit (trim piece))
@@ -208,24 +193,19 @@ all-empty : (limit place : ℕ) (pieces : List (List ℕ))
 unfolding all_ignored
 all-empty limit place [] = refl
 all-empty limit place (piece ∷ pieces) =
-    grind (arith, append-empty, within-empty, all-empty limit (place + length piece + 2) pieces)
+    grind (arith, within-empty, all-empty limit (place + length piece + 2) pieces)
 
 are-bounded : (limit : ℕ) (pieces : List (List ℕ)) → AllByRecursion IsUtf8 pieces → list_all (bounded limit) pieces ≡ true
     → AllByRecursion (IsBounded limit) pieces
 are-bounded limit [] u h = tt
 are-bounded limit (piece ∷ pieces) u h =
-    let t = trim_is_middle piece u.0 in
-    let read = (words-law limit piece (trim piece) (words limit (trim piece)) u.0 t).0 refl in
-    let (first, others) = and_parts (bounded limit piece) (list_all (bounded limit) pieces) h in
-    ((words limit (trim piece), (trim piece, t, read), first), are-bounded limit pieces u.1 others)
+    grind (arith, trim_is_middle piece u.0, words-law limit piece (trim piece), are-bounded limit pieces u.1)
 
 all-bounded : (limit : ℕ) (pieces : List (List ℕ)) → AllByRecursion IsUtf8 pieces → AllByRecursion (IsBounded limit) pieces
     → list_all (bounded limit) pieces ≡ true
 all-bounded limit [] u h = refl
 all-bounded limit (piece ∷ pieces) u h =
-    let b = h.0 in
-    let same = (words-law limit piece b.1.0 b.0 u.0 b.1.1).1 b.1.2 in
-    grind (arith, middle_is_trim piece b.1.0 b.1.1, same, all-bounded limit pieces u.1 h.1)
+    grind (arith, middle_is_trim piece, words-law limit piece, all-bounded limit pieces u.1)
 
 -- ---- the clauses
 

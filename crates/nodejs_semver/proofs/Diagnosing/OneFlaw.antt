@@ -1,56 +1,25 @@
 -- A text has one flaw: behind the place of a flaw no version text goes on.
 use Rattle.nodejs_semver.proofs.Common.{Bool, IfSome, IsBlank, IsCharBoundary-before_ascii, IsNumber, IsUtf8, IsUtf8-drop, IsUtf8-take, IsWholeNumber}
-use Rattle.nodejs_semver.proofs.Common.{List, NoPieceAt, None, Option, Some, VersionValue, [], and_parts, ap, append_assoc, arith, begins, cases_Bool}
-use Rattle.nodejs_semver.proofs.Common.{cases_lt, common_steps, drop, drop_at, drop_spaces, drop_spaces-blank, drop_spaces-none, encode_utf8}
-use Rattle.nodejs_semver.proofs.Common.{encode_utf8_all, false, inl, inr, is_ascii_digit, is_whitespace, len_utf8_bounds, length, length-append}
-use Rattle.nodejs_semver.proofs.Common.{length-drop, length-encode, length-take-le, list_all, list_all-append, nat_tests, not, prefix_len, refl}
-use Rattle.nodejs_semver.proofs.Common.{release_value, space_len, subst, suc, sym, take, take_at, true, zero, ℕ, ◌++◌, ◌+◌, ◌-◌, ◌<◌, ◌↔◌, ◌∙◌, ◌∷◌}
-use Rattle.nodejs_semver.{proofs.{Common.{◌≡◌, ◌≤◌}, Reading.PartialLaw.{build-solid, digits-solid, pre-solid}}, specs.Diagnosis.VersionFlaws.IsExact}
-use Rattle.nodejs_semver.specs.{Diagnosis.VersionFlaws.{IsExpectedAt, IsFlaw, IsFront, IsGreatAt}, Internal.Stuck.{BeginsGreat, IsNumberAt, IsWhole}}
-use Rattle.nodejs_semver.specs.{Internal.Stuck.{Stuck, at_digit, at_dot, at_great, begins_dot, later}, declared.diagnosis.versions.Expected.Expected}
-use Rattle.nodejs_semver.specs.declared.diagnosis.versions.{Expected.TheVariants.{Digit, Dot}, VersionFlaw.VersionFlaw}
-use Rattle.semver_core.proofs.{Reading.{Bytes.is_solid, Numbers.{digits-taken, run-ends}}, Text.Pieces.{number_complete, some_inside}}
-use Rattle.semver_core.proofs.Text.{SpaceLaw.front_is_first_character, Spaces.after_spaces-end, Texts.{no_mark_at, number_begins, read_at}}
-use Rattle.semver_core.specs.{Internal.Reading.{mark_len, number_at, triple_at}, Text.VersionText.{IsMark, Reads, no_build, no_mark, no_pre_release}}
-use Rattle.std.proofs.{Math.Seq.{drop-append_seam, get_or-append_seam, take-add, take-append_seam}, lemmas.List.{drop-drop, take-append-drop}}
-use Rattle.std.proofs.lemmas.Str.{IsCharBoundary-from_take, IsUtf8-append, IsUtf8-encode, IsUtf8-nil, char_from_byte, encode_ascii}
-use Rattle.std.specs.{Char.IsScalar, Str.Parse.digits_value}
+use Rattle.nodejs_semver.proofs.Common.{List, NoPieceAt, None, Option, Some, VersionValue, [], and_parts, ap, append_assoc, arith, begins, cases_lt}
+use Rattle.nodejs_semver.proofs.Common.{common_steps, drop, drop_at, drop_spaces, drop_spaces-blank, drop_spaces-none, encode_utf8, encode_utf8_all}
+use Rattle.nodejs_semver.proofs.Common.{false, inl, inr, is_ascii_digit, is_whitespace, length, length-append, length-drop, length-take-le, list_all}
+use Rattle.nodejs_semver.proofs.Common.{list_all-append, nat_tests, not, prefix_len, refl, release_value, space_len, subst, suc, sym, take, true}
+use Rattle.nodejs_semver.proofs.{Common.{zero, ℕ, ◌++◌, ◌+◌, ◌-◌, ◌<◌, ◌↔◌, ◌∙◌, ◌∷◌, ◌≡◌, ◌≤◌}, Reading.PartialLaw.{build-solid, digits-solid}}
+use Rattle.nodejs_semver.{proofs.Reading.PartialLaw.pre-solid, specs.Diagnosis.VersionFlaws.{IsExact, IsExpectedAt, IsFlaw, IsFront, IsGreatAt}}
+use Rattle.nodejs_semver.specs.Internal.Stuck.{BeginsGreat, IsNumberAt, IsWhole, Stuck, at_digit, at_dot, at_great, begins_dot, later}
+use Rattle.nodejs_semver.specs.declared.diagnosis.versions.{Expected.{Expected, TheVariants.{Digit, Dot}}, VersionFlaw.VersionFlaw}
+use Rattle.semver_core.proofs.{Reading.{Bytes.{ends-append, is_solid}, Numbers.{digits-taken, run-ends}}, Text.Pieces.{number_complete, some_inside}}
+use Rattle.semver_core.proofs.Text.{Runs.prefix_each, SpaceLaw.front_is_first_character, Spaces.after_spaces-end, Texts.{no_mark_at, number_begins}}
+use Rattle.semver_core.{proofs.Text.Texts.read_at, specs.{Internal.Reading.{mark_len, number_at, triple_at}, Text.VersionText.{IsMark, Reads}}}
+use Rattle.{semver_core.specs.Text.VersionText.{no_build, no_mark, no_pre_release}, std.proofs.Math.Seq.{drop-append_seam, get_or-append_seam}}
+use Rattle.std.proofs.{Math.Seq.{take-add, take-append_seam}, lemmas.{List.{drop-drop, take-append-drop}, Str.Ascii.{IsAscii-cons, IsAscii-nil}}}
+use Rattle.std.{proofs.lemmas.Str.{IsCharBoundary-from_take, IsUtf8-append, IsUtf8-encode, IsUtf8-from_ascii, IsUtf8-nil}, specs.Str.IsAscii}
+use Rattle.std.specs.Str.Parse.{digits_value}
 use lib.Utf8.{low_scalar}
 use Rattle.nodejs_semver.specs.declared.diagnosis.versions.VersionFlaw.TheVariants as Flaw
 
--- the run of digits at the front of a text
-run-digits : (text : List ℕ) → list_all is_ascii_digit (take (prefix_len is_ascii_digit text) text) ≡ true
-run-digits [] = refl
-run-digits (b ∷ rest) = elim (cases_Bool (is_ascii_digit b)) [
-  | inl digit ↦ let e : 1 + prefix_len is_ascii_digit rest ≡ suc (prefix_len is_ascii_digit rest) = omega arith in
-      rw (digit, e) (rw digit (run-digits rest))
-  | inr other ↦ rw other refl
-]
-
 run-some : (text : List ℕ) → begins is_ascii_digit text ≡ true → 0 < length (take (prefix_len is_ascii_digit text) text)
 run-some text h = grind arith
-
--- it is above the limit where it is no number
-pub begins_great : (limit : ℕ) (text : List ℕ) (at : ℕ) → begins is_ascii_digit (drop at text) ≡ true
-    → ((n : ℕ) → NoPieceAt (λ digits rest. IsWholeNumber limit digits rest n) text at) → BeginsGreat limit (drop at text)
-begins_great limit text at some none =
-    let y = drop at text in
-    let len = prefix_len is_ascii_digit y in
-    let run = take len y in
-    let divided : y ≡ run ++ drop len y = sym (take-append-drop len y) in
-    elim (cases_lt limit (digits_value 10 run)) [
-      | inl above ↦ (run, drop len y, divided, run-digits y, run-ends y, above)
-      | inr safe ↦ absurd (none (digits_value 10 run) run (drop len y) divided (record {
-        number = record { some = run-some y some; each = run-digits y; value = refl; safe = safe };
-        ended = run-ends y;
-      }))
-    ]
-
--- two runs of digits at the front of a text are one
-pub digits_once : (d e x y : List ℕ) → list_all is_ascii_digit d ≡ true → list_all is_ascii_digit e ≡ true
-    → begins is_ascii_digit x ≡ false → begins is_ascii_digit y ≡ false → d ++ x ≡ e ++ y → (d ≡ e) × (x ≡ y)
-digits_once d e x y a b f g same =
-    grind (arith, nat_tests, digits-taken d x a f, digits-taken e y b g, drop_at d x (length d) refl, drop_at, take_at d x (length d) refl, take_at)
 
 number-is : (limit : ℕ) (text : List ℕ) (at end : ℕ) → at ≤ length text → (s : IsNumberAt limit text at end)
     → number_at limit text at ≡ Some (s.n, end)
@@ -68,11 +37,23 @@ triple_found limit text at a b end i m d j n e k p =
     let second = number-is limit text (a + 1) b j n in
     ((m.n, n.n, p.n, end), rw (number-is limit text at a i m, d, second, e, number-is limit text (b + 1) end k p) refl, refl)
 
--- where the reader stops
+-- where the reader stops: the run of digits is above the limit where it is no number
 pub stuck_great : (limit : ℕ) (text : List ℕ) (at : ℕ) → begins is_ascii_digit (drop at text) ≡ true
     → ((n : ℕ) → NoPieceAt (λ digits rest. IsWholeNumber limit digits rest n) text at) → (k : ℕ)
     → Stuck limit text k at (Flaw.NumberTooGreat at)
-stuck_great limit text at some none k = at_great k at (begins_great limit text at some none)
+stuck_great limit text at some none k =
+    let y = drop at text in
+    let len = prefix_len is_ascii_digit y in
+    let run = take len y in
+    let divided : y ≡ run ++ drop len y = sym (take-append-drop len y) in
+    let each = prefix_each is_ascii_digit y in
+    at_great k at (elim (cases_lt limit (digits_value 10 run)) [
+      | inl above ↦ (run, drop len y, divided, each, run-ends y, above)
+      | inr safe ↦ absurd (none (digits_value 10 run) run (drop len y) divided (record {
+        number = record { some = run-some y some; each = each; value = refl; safe = safe };
+        ended = run-ends y;
+      }))
+    ])
 
 pub ruleset number_stops = (at_digit, stuck_great)
 
@@ -100,7 +81,10 @@ first_numeral limit k text rest h = grind arith
 
 -- what follows a number is one text
 pub numeral_once : (limit : ℕ) (d x rest : List ℕ) (n : ℕ) → IsWholeNumber limit d x n → Numeral limit (d ++ x) rest → x ≡ rest
-numeral_once limit d x rest n w m = (digits_once d m.digits x rest w.number.each m.is.number.each w.ended m.is.ended m.divided).1
+numeral_once limit d x rest n w m =
+    let one = digits-taken d x w.number.each w.ended in
+    let other = digits-taken m.digits rest m.is.number.each m.is.ended in
+    cc (one, other, m.divided, drop_at d x (length d) refl, drop_at m.digits rest (length m.digits) refl)
 
 -- behind the numbers of a version at the front of a text stands this
 abbrev pub HasTail : ℕ → List ℕ → List ℕ → Type 0
@@ -117,29 +101,16 @@ pub record Place (limit : ℕ) (Starts : List ℕ → Type 0) (front : List ℕ)
 
 -- ---- the first bytes of a character
 
-alike : {A : Type 0} (f : List ℕ → A) → ((b : ℕ) (x y : List ℕ) → f (b ∷ x) ≡ f (b ∷ y)) → (c : ℕ) (rest other : List ℕ)
-    → f (encode_utf8 c ++ rest) ≡ f (encode_utf8 c ++ other)
-alike f first c rest other = go (encode_utf8 c) (omega (arith, length-encode c, (len_utf8_bounds c).0))
-  where
-    go : (bytes : List ℕ) → 0 < length bytes → f (bytes ++ rest) ≡ f (bytes ++ other)
-    go [] h = absurd (omega arith)
-    go (b ∷ bytes) h = first b (bytes ++ rest) (bytes ++ other)
-
 pub begins_alike : (test : ℕ → Bool) (c : ℕ) (rest other : List ℕ)
     → begins test (encode_utf8 c ++ rest) ≡ begins test (encode_utf8 c ++ other)
-begins_alike test = alike (begins test) (λ b x y. refl)
+unfolding encode_utf8
+begins_alike test c rest other = grind arith
 
 mark-alike : (c : ℕ) (rest other : List ℕ) → mark_len (encode_utf8 c ++ rest) ≡ mark_len (encode_utf8 c ++ other)
-mark-alike = alike mark_len (λ b x y. refl)
+unfolding encode_utf8
+mark-alike c rest other = grind arith
 
 -- ---- the mark and the whitespace
-
--- two texts that are equal end alike
-last-is : (xs ys : List ℕ) (x y : ℕ) → xs ++ x ∷ [] ≡ ys ++ y ∷ [] → x ≡ y
-last-is [] [] x y e = cc
-last-is [] (b ∷ ys) x y e = grind (arith, length-append ys (y ∷ []))
-last-is (a ∷ xs) [] x y e = grind (arith, length-append xs (x ∷ []))
-last-is (a ∷ xs) (b ∷ ys) x y e = grind (arith, last-is xs ys x y)
 
 abbrev is_dark : ℕ → Bool
 is_dark b = not (is_ascii_digit b)
@@ -158,19 +129,11 @@ mark-dark mark h = grind arith
 -- no digit ends them
 lead-begun : (mark blank : List ℕ) → IsMark mark → IsBlank blank → (most : List ℕ) (c : ℕ) → mark ++ blank ≡ most ++ c ∷ []
     → is_ascii_digit c ≡ false
-lead-begun mark blank m b most c e =
-    let dark = list_all-append is_dark mark blank in
-    let last = list_all-append is_dark most (c ∷ []) in
-    grind (arith, dark, last, mark-dark, white-texts)
+lead-begun mark blank m b most c e = grind (arith, list_all-append is_dark, mark-dark, white-texts)
 
 white-unmarked : (c : ℕ) (rest : List ℕ) → is_whitespace c ≡ true → mark_len (encode_utf8 c ++ rest) ≡ 0
-white-unmarked c rest h = go (encode_utf8 c ++ rest) refl
-  where
-    go : (t : List ℕ) → t ≡ encode_utf8 c ++ rest → mark_len t ≡ 0
-    go [] e = refl
-    go (b ∷ t) e = no_mark_at b t (λ m.
-        let same : c ≡ b = char_from_byte (b ∷ t) rest c e (grind (arith, nat_tests)) (omega arith) in
-        grind (arith, nat_tests, same))
+unfolding encode_utf8
+white-unmarked c rest h = grind (arith, nat_tests)
 
 pub digit_starts : (text : List ℕ) → begins is_ascii_digit text ≡ true → (space_len text ≡ 0) × (mark_len text ≡ 0)
 unfolding space_len
@@ -277,7 +240,7 @@ next_place limit Starts front d n k p number = record {
   local = λ c rest other s. tt;
   digit = λ text h. tt;
   dot = λ text. tt;
-  begun = λ most c e. ap is_ascii_digit (sym (last-is (front ++ d) most 46 c (append_assoc front d (46 ∷ []) ∙ e)));
+  begun = λ most c e. grind (arith, e, ends-append is_ascii_digit, length-append);
   only = λ text tail s h.
       let found = p.only (d ++ 46 ∷ text) tail (p.digit (d ++ 46 ∷ text) (number_begins d (46 ∷ text) number.some number.each))
       (subst (λ (t : List ℕ). HasTail limit t tail) (joined text) h) in
@@ -293,25 +256,15 @@ next_place limit Starts front d n k p number = record {
 
 -- ---- a version text is UTF-8, and so are the bytes before an ASCII character of it
 
-ascii-then : (c : ℕ) (text : List ℕ) → c < 128 → IsUtf8 text → IsUtf8 (c ∷ text)
-ascii-then c text low u =
-    grind (arith, IsUtf8-append (c ∷ []) text, encode_ascii c low, IsUtf8-encode c, low_scalar c)
-
-solid-utf8 : (text : List ℕ) → list_all is_solid text ≡ true → IsUtf8 text
-solid-utf8 [] h = IsUtf8-nil
-solid-utf8 (c ∷ text) h = grind (arith, nat_tests, ascii-then, solid-utf8 text)
-
-white-scalar : (c : ℕ) → is_whitespace c ≡ true → IsScalar c
-white-scalar c h = grind (arith, nat_tests, low_scalar)
+solid-ascii : (text : List ℕ) → list_all is_solid text ≡ true → IsAscii text
+solid-ascii [] h = IsAscii-nil
+solid-ascii (c ∷ text) h = grind (arith, nat_tests, IsAscii-cons, solid-ascii text)
 
 blank-utf8 : (cs : List ℕ) → list_all is_whitespace cs ≡ true → IsUtf8 (encode_utf8_all cs)
 blank-utf8 [] h = IsUtf8-nil
 blank-utf8 (c ∷ cs) h =
     let each = and_parts (is_whitespace c) (list_all is_whitespace cs) h in
-    IsUtf8-append (encode_utf8 c) (encode_utf8_all cs) (IsUtf8-encode c (white-scalar c each.0)) (blank-utf8 cs each.1)
-
-mark-solid : (mark : List ℕ) → IsMark mark → list_all is_solid mark ≡ true
-mark-solid mark h = grind arith
+    IsUtf8-append (encode_utf8 c) (encode_utf8_all cs) (IsUtf8-encode c (grind (arith, nat_tests, low_scalar))) (blank-utf8 cs each.1)
 
 whole-utf8 : (limit : ℕ) (text : List ℕ) → IsWhole limit text → IsUtf8 text
 whole-utf8 limit text w =
@@ -324,8 +277,9 @@ whole-utf8 limit text w =
     let build = build-solid r.build r.rest w.0.build r.build_is in
     let solid : list_all is_solid numbers ≡ true = grind (arith, list_all-append, w.2) in
     let blank : IsUtf8 r.blank = rw r.blank_is.spelled (blank-utf8 r.blank_is.characters r.blank_is.each) in
-    let behind = IsUtf8-append r.blank numbers blank (solid-utf8 numbers solid) in
-    rw r.divided (IsUtf8-append r.mark _ (solid-utf8 r.mark (mark-solid r.mark r.mark_is)) behind)
+    let behind = IsUtf8-append r.blank numbers blank (IsUtf8-from_ascii numbers (solid-ascii numbers solid)) in
+    let mark : list_all is_solid r.mark ≡ true = grind (arith, r.mark_is) in
+    rw r.divided (IsUtf8-append r.mark _ (IsUtf8-from_ascii r.mark (solid-ascii r.mark mark)) behind)
 
 -- bytes with which a version text goes on, and this character behind them
 abbrev GoesOn : ℕ → List ℕ → ℕ → Type 0
@@ -350,49 +304,39 @@ utf8-behind front text u w =
 
 -- ---- no version text goes on behind the place of a flaw
 
-shorter : (limit : ℕ) (front more : List ℕ) → IsFront limit (front ++ more) → IsFront limit front
-shorter limit front more f = (more ++ f.0, subst (λ (t : List ℕ). IsWhole limit t) (append_assoc front more f.0) f.1)
+-- a character that is right where this is expected
+abbrev sample : Expected → ℕ
+sample Digit = 48
+sample Dot = 46
 
-expected-ends : (limit : ℕ) (text : List ℕ) (what : Expected) (at n c d : ℕ) → IsExpectedAt limit text what at
-    → GoesOn limit (take at text) c → 0 < n → at + n ≤ length text → GoesOn limit (take (at + n) text) d → ⊥
-expected-ends limit text what at n c d x f some inside g =
+expected-goes_on : (limit : ℕ) (text : List ℕ) (what : Expected) (at : ℕ) → IsExpectedAt limit text what at
+    → GoesOn limit (take at text) (sample what)
+expected-goes_on limit text what at x = grind arith
+
+great-goes_on : (limit : ℕ) (text : List ℕ) (at : ℕ) → IsGreatAt limit text at → GoesOn limit (take at text) 48
+great-goes_on limit text at x = (omega arith, x.right 48 refl)
+
+expected-before : (limit : ℕ) (text : List ℕ) (what : Expected) (at next d : ℕ) → IsExpectedAt limit text what at
+    → at < next → next ≤ length text → GoesOn limit (take next text) d → ⊥
+expected-before limit text what at next d x lt inside g =
+    let n = next - at in
     let y = drop at text in
     let z = take n y in
-    let front : take (at + n) text ≡ take at text ++ z = take-add at n text in
-    let long : length z ≡ n = omega (arith, length-take-le n y, length-drop at text) in
-    let u = utf8-behind (take at text) z (front-utf8 limit (take at text) c f)
-    (subst (λ (t : List ℕ). IsUtf8 t) front (front-utf8 limit (take (at + n) text) d g)) in
-    go z u.0 u.1.1 (omega arith) (sym (take-append-drop n y)) front
+    let place : next ≡ at + n = omega (arith, lt) in
+    let front : take next text ≡ take at text ++ z = cc (place, take-add at n text) in
+    let long : length z ≡ n = omega (arith, lt, inside, length-take-le n y, length-drop at text) in
+    let u = utf8-behind (take at text) z
+    (front-utf8 limit (take at text) (sample what) (expected-goes_on limit text what at x))
+    (rw front at (front-utf8 limit (take next text) d g)) in
+    go z u.0 u.1.1 (omega arith) (sym (take-append-drop n y)) (rw front at g.1.1)
   where
-    go : (z cs : List ℕ) → encode_utf8_all cs ≡ z → 0 < length z → drop at text ≡ z ++ drop n (drop at text)
-        → take (at + n) text ≡ take at text ++ z → ⊥
-    go z [] e some y front = absurd (omega (arith, ap length e))
-    go z (b ∷ cs) e some y front =
-        let here = encode_utf8 b in
-        let more = encode_utf8_all cs in
-        let rest = drop n (drop at text) in
-        let other = more ++ d ∷ g.1.0 in
-        let begins_so : drop at text ≡ here ++ (more ++ rest) =
-        y ∙ (ap (λ (t : List ℕ). t ++ rest) (sym e) ∙ append_assoc here more rest) in
-        let same : (take (at + n) text ++ d ∷ []) ++ g.1.0 ≡ take at text ++ (here ++ other) =
-        ap (λ (t : List ℕ). (t ++ d ∷ []) ++ g.1.0) (front ∙ ap (λ (t : List ℕ). take at text ++ t) (sym e))
-        ∙ simp append_assoc in
-        let whole = subst (λ (t : List ℕ). IsWhole limit t) same g.1.1 in
-        x.wrong b (more ++ rest) other begins_so whole.0 whole.1
-
-great-ends : (limit : ℕ) (text : List ℕ) (at n d : ℕ) → (x : IsGreatAt limit text at)
-    → IsFront limit (take (at + (length x.great.0 + n)) text ++ d ∷ []) → ⊥
-great-ends limit text at n d x g =
-    let m = length x.great.0 in
-    let y = drop at text in
-    let digits : take m y ≡ x.great.0 = cc (x.great.2, take-append_seam x.great.0 x.great.1) in
-    let assoc = append_assoc (take at text) x.great.0 (take n (drop m y)) in
-    let front : take (at + (m + n)) text ≡ (take at text ++ x.great.0) ++ take n (drop m y) =
-    cc (take-add at (m + n) text, take-add m n y, digits, assoc) in
-    x.wrong (shorter limit (take at text ++ x.great.0) (take n (drop m y) ++ d ∷ [])
-    (subst (λ (t : List ℕ). IsFront limit t)
-    (ap (λ (t : List ℕ). t ++ d ∷ []) front
-    ∙ append_assoc (take at text ++ x.great.0) (take n (drop m y)) (d ∷ [])) g))
+    go : (z cs : List ℕ) → encode_utf8_all cs ≡ z → 0 < length z → drop at text ≡ z ++ drop (next - at) (drop at text)
+        → IsWhole limit (((take at text ++ z) ++ d ∷ []) ++ g.1.0) → ⊥
+    go z [] e some y whole = absurd (omega (arith, ap length e))
+    go z (b ∷ cs) e some y whole =
+        let w = simp (← e, append_assoc) at whole in
+        x.wrong b (encode_utf8_all cs ++ drop (next - at) (drop at text)) (encode_utf8_all cs ++ d ∷ g.1.0)
+        (simp (← e, append_assoc) at y) w.0 w.1
 
 -- ---- a number that is too great has digits from its place on
 
@@ -406,49 +350,32 @@ digit-inside : (limit : ℕ) (text : List ℕ) (at k : ℕ) → (x : IsGreatAt l
     → begins is_ascii_digit (drop (at + k) text) ≡ true
 digit-inside limit text at k x lt = grind (arith, nat_tests, digits-go_on x.great.0 x.great.1 k x.great.3 lt, drop-drop k at text)
 
-last-byte : (text : List ℕ) (p c : ℕ) (rest : List ℕ) → drop p text ≡ c ∷ rest → take (p + 1) text ≡ take p text ++ c ∷ []
-last-byte text p c rest e = take-add p 1 text ∙ ap (λ (t : List ℕ). take p text ++ take 1 t) e
-
 -- a number does not begin behind a digit
 not-begun : (limit : ℕ) (text : List ℕ) (p : ℕ) → IsGreatAt limit text (p + 1) → begins is_ascii_digit (drop p text) ≡ true → ⊥
 not-begun limit text p x h = go (drop p text) refl h
   where
     go : (y : List ℕ) → drop p text ≡ y → begins is_ascii_digit y ≡ true → ⊥
     go [] e h = cc
-    go (c ∷ rest) e h = cc (sym h ∙ x.begun (take p text) c (last-byte text p c rest e))
+    go (c ∷ rest) e h = cc (h, x.begun (take p text) c (rw (take-add p 1 text, e) refl))
 
 -- ---- one flaw
-
--- a character that is right where this is expected
-abbrev sample : Expected → ℕ
-sample Digit = 48
-sample Dot = 46
-
-expected-goes_on : (limit : ℕ) (text : List ℕ) (what : Expected) (at : ℕ) → IsExpectedAt limit text what at
-    → GoesOn limit (take at text) (sample what)
-expected-goes_on limit text what at x = grind arith
-
-great-goes_on : (limit : ℕ) (text : List ℕ) (at : ℕ) → IsGreatAt limit text at → GoesOn limit (take at text) 48
-great-goes_on limit text at x = (omega arith, x.right 48 refl)
 
 same-expected : (limit : ℕ) (text : List ℕ) (what other : Expected) (at : ℕ) → IsExpectedAt limit text what at
     → IsExpectedAt limit text other at → what ≡ other
 same-expected limit text what other at x y = grind (arith, x.dot, y.dot, x.right 46, y.right 46)
 
--- the first is behind the second
-expected-before : (limit : ℕ) (text : List ℕ) (what : Expected) (at next d : ℕ) → IsExpectedAt limit text what at
-    → at < next → next ≤ length text → GoesOn limit (take next text) d → ⊥
-expected-before limit text what at next d x lt inside g =
-    let place : at + (next - at) ≡ next = omega (arith, lt) in
-    expected-ends limit text what at (next - at) (sample what) d x (expected-goes_on limit text what at x) (omega (arith, lt))
-    (omega (arith, place, inside)) (subst (λ (n : ℕ). GoesOn limit (take n text) d) (sym place) g)
-
 great-before : (limit : ℕ) (text : List ℕ) (at next d : ℕ) → (x : IsGreatAt limit text at)
     → at + length x.great.0 ≤ next → GoesOn limit (take next text) d → ⊥
 great-before limit text at next d x le g =
-    let n = next - (at + length x.great.0) in
-    let place : next ≡ at + (length x.great.0 + n) = omega (arith, le) in
-    great-ends limit text at n d x (subst (λ (m : ℕ). IsFront limit (take m text ++ d ∷ [])) place g.1)
+    let m = length x.great.0 in
+    let n = next - (at + m) in
+    let y = drop at text in
+    let place : next ≡ at + (m + n) = omega (arith, le) in
+    let digits : take m y ≡ x.great.0 = cc (x.great.2, take-append_seam x.great.0 x.great.1) in
+    let front : take next text ≡ take at text ++ (x.great.0 ++ take n (drop m y)) =
+    cc (place, take-add at (m + n) text, take-add m n y, digits) in
+    let whole = simp (front, append_assoc) at g.1.1 in
+    x.wrong (take n (drop m y) ++ d ∷ g.1.0, simp append_assoc whole)
 
 expected-not-great : (limit : ℕ) (text : List ℕ) (what : Expected) (at other : ℕ) → IsExpectedAt limit text what at
     → IsGreatAt limit text other → ⊥

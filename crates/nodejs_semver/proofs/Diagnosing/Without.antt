@@ -1,10 +1,10 @@
 -- A range text means what its words mean that are not ignored.
 use Rattle.nodejs_semver.proofs.Common.{AllByRecursion, IsBlank, IsCutAtBars, IsUtf8, List, Means, Run, Span, VersionValue, Word, [], ap, arith}
-use Rattle.nodejs_semver.proofs.Common.{common_steps, denotes, false, filter, filter_map, flat_map, interval_of, is_empty, is_some, list_all, map}
+use Rattle.nodejs_semver.proofs.Common.{common_steps, empty_is, denotes, false, filter, filter_map, flat_map, interval_of, is_empty, is_some, list_all, map}
 use Rattle.nodejs_semver.proofs.Common.{middle_is_trim, more_pieces, nat_tests, one_piece, part_denotes, precedence, refl, run_items, sym, table}
 use Rattle.nodejs_semver.proofs.{Common.{trim, true, words, ℕ, ◌++◌, ◌↔◌, ◌∙◌, ◌∷◌, ◌≡◌}, Dividing.MeaningLaw.{blank-empty, empty-blank, one_meaning}}
 use Rattle.nodejs_semver.{proofs.Dividing.MeaningLaw.words-law, specs.Diagnosis.IgnoredWords.{AreAlike, IsWhollyIgnored, ignored_as}}
-use Rattle.nodejs_semver.specs.Text.Meaning.{AreAllIntervals, AreWords, HasRuns, HasWords, all_intervals, blank_piece, next_piece}
+use Rattle.nodejs_semver.specs.Text.Meaning.{AreAllIntervals, HasRuns, HasWords, all_intervals, blank_piece, next_piece}
 use Rattle.{nodejs_semver.specs.Text.Meaning.no_piece, semver_core.proofs.Dividing.BarsDivide.{bars_once, pieces-utf8}}
 use Rattle.std.{proofs.lemmas.Bool.false_from_ne_true, specs.{List.AllZip, Prelude.is_none}}
 
@@ -24,31 +24,19 @@ kept-is : (limit : ℕ) (word : Word) → is_none (ignored_as limit word) ≡ is
 unfolding table
 kept-is limit word = grind arith
 
-ignored-is : (limit : ℕ) (word : Word) → is_some (ignored_as limit word) ≡ is_none (table limit word)
-unfolding table
-ignored-is limit word = grind arith
-
 kept-bounds : (limit : ℕ) (ws : List Word)
     → filter_map (table limit) (filter (λ w. is_none (ignored_as limit w)) ws) ≡ filter_map (table limit) ws
 kept-bounds limit [] = refl
 kept-bounds limit (w ∷ ws) = grind (arith, kept-is limit w, kept-bounds limit ws)
 
-ignored-bounds : (limit : ℕ) (ws : List Word) → list_all (λ w. is_some (ignored_as limit w)) ws ≡ true
-    → filter_map (table limit) ws ≡ []
-ignored-bounds limit [] h = refl
-ignored-bounds limit (w ∷ ws) h = grind (arith, ignored-is limit w, ignored-bounds limit ws)
+ignored-bounds : (limit : ℕ) (ws : List Word)
+    → list_all (λ w. is_some (ignored_as limit w)) ws ≡ is_empty (filter_map (table limit) ws)
+ignored-bounds limit [] = refl
+ignored-bounds limit (w ∷ ws) = grind (arith, kept-is limit w, ignored-bounds limit ws)
 
-all-ignored : (limit : ℕ) (ws : List Word) → filter_map (table limit) ws ≡ []
-    → list_all (λ w. is_some (ignored_as limit w)) ws ≡ true
-all-ignored limit [] h = refl
-all-ignored limit (w ∷ ws) h = grind (arith, ignored-is limit w, all-ignored limit ws)
-
--- a part has words unless it is empty
-has-words : (limit : ℕ) (part : List ℕ) (ws : List Word) → AreWords limit part ws → is_empty part ≡ is_empty ws
-has-words limit part ws h = grind arith
-
+-- a piece has words unless it is blank
 piece-words : (limit : ℕ) (piece : List ℕ) (ws : List Word) → HasWords limit piece ws → is_empty (trim piece) ≡ is_empty ws
-piece-words limit piece ws h = grind (arith, nat_tests, middle_is_trim piece h.0 h.1, has-words limit h.0 ws h.2)
+piece-words limit piece ws h = grind (arith, nat_tests, middle_is_trim piece h.0 h.1)
 
 words-are : (limit : ℕ) (piece : List ℕ) (ws : List Word) → IsUtf8 piece → HasWords limit piece ws
     → words limit (trim piece) ≡ ws
@@ -83,13 +71,10 @@ same_without limit text other list u v h m = grind (arith, nat_tests, common_ste
 
 -- ---- which texts are rejected
 
-nothing-in : {A : Type 0} (xs ys : List A) → xs ++ ys ≡ [] → (xs ≡ []) × (ys ≡ [])
-nothing-in [] ys e = (refl, e)
-nothing-in (x ∷ xs) ys e = cc e
-
-no-runs : (runs : List (Run VersionValue)) → map (interval_of precedence) runs ≡ [] → runs ≡ []
-no-runs [] e = refl
-no-runs (r ∷ runs) e = cc e
+no-runs : (runs : List (Run VersionValue)) (others : List (Span VersionValue)) → map (interval_of precedence) runs ++ others ≡ []
+    → (runs ≡ []) × (others ≡ [])
+no-runs [] others e = (refl, e)
+no-runs (r ∷ runs) others e = cc e
 
 dark-words : (limit : ℕ) (piece : List ℕ) (ws : List Word) → IsUtf8 piece → (IsBlank piece → ⊥) → HasWords limit piece ws
     → is_empty ws ≡ false
@@ -100,10 +85,9 @@ pieces-ignored : (limit : ℕ) (pieces : List (List ℕ)) (list : List (Span Ver
 pieces-ignored limit pieces list u no_piece e = tt
 pieces-ignored limit pieces list u (blank_piece piece rest others blank more) e = cc e
 pieces-ignored limit pieces list u (next_piece piece rest runs others dark h more) e =
-    let parts = nothing-in (map (interval_of precedence) runs) others e in
-    let none : filter_map (table limit) h.0 ≡ [] =
-    sym h.2.0 ∙ ap (λ (l : List (Run VersionValue)). flat_map run_items l) (no-runs runs parts.0) in (
-      (h.0, h.1, dark-words limit piece h.0 u.0 dark h.1, all-ignored limit h.0 none),
+    let parts = no-runs runs others e in
+    let none : filter_map (table limit) h.0 ≡ [] = sym h.2.0 ∙ ap (λ (l : List (Run VersionValue)). flat_map run_items l) parts.0 in (
+      (h.0, h.1, dark-words limit piece h.0 u.0 dark h.1, ignored-bounds limit h.0 ∙ ap is_empty none),
       pieces-ignored limit rest others u.1 more parts.1,
     )
 
@@ -113,7 +97,7 @@ filled limit piece h blank = cc (sym (blank-empty piece blank) ∙ (piece-words 
 ignored-mean : (limit : ℕ) (pieces : List (List ℕ)) → AllByRecursion (IsIgnored limit) pieces → AreAllIntervals limit pieces []
 ignored-mean limit [] h = no_piece
 ignored-mean limit (piece ∷ pieces) h =
-    let none = ignored-bounds limit h.0.0 h.0.3 in
+    let none = empty_is _ (sym (ignored-bounds limit h.0.0) ∙ h.0.3) in
     let runs : HasRuns limit piece [] = (h.0.0, h.0.1, (sym none, tt, tt)) in
     next_piece piece pieces [] [] (filled limit piece h.0) runs (ignored-mean limit pieces h.1)
 
@@ -123,12 +107,8 @@ not-blank limit text pieces (one_piece piece h) ignored blank = filled limit pie
 not-blank limit text pieces (more_pieces piece rest others h ended cut) ignored blank =
     filled limit piece ignored.0 blank.0
 
-means-none : (limit : ℕ) (text : List ℕ) (list : List (Span VersionValue)) → IsUtf8 text → Means limit text list → list ≡ []
-    → IsWhollyIgnored limit text
-means-none limit text list u m e = grind (arith, pieces-ignored, pieces-utf8)
-
 pub rejected_if_ignored : (limit : ℕ) (text : List ℕ) → IsUtf8 text → Means limit text [] ↔ IsWhollyIgnored limit text
 rejected_if_ignored limit text u = (
-  λ m. means-none limit text [] u m refl,
+  λ m. grind (arith, pieces-ignored, pieces-utf8),
   λ h. all_intervals h.0 [] h.1 (not-blank limit text h.0 h.1 h.2) (ignored-mean limit h.0 h.2),
 )

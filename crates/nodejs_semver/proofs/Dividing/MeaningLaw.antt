@@ -1,21 +1,18 @@
 -- What a text denotes is its one meaning, and the versions that are computed of it are those that it writes.
-use Rattle.nodejs_semver.proofs.{Algebra.{Accepting.accepts-held, Holds.denotes_hold}, Common.{AllByRecursion, Any, Bool, IfNone, IfSome}}
-use Rattle.nodejs_semver.proofs.Common.{IsBlank, IsCutAtBars, IsSomeAnd, IsTrim, IsTrue, has_bars, part_intervals}
-use Rattle.nodejs_semver.proofs.Common.{IsUtf8, List, Means, Option, Run, Span, VersionValue, Word}
-use Rattle.nodejs_semver.proofs.Common.{[], accepts, and_from, ap, append-nil, arith, cases_Bool, common_steps, cut_bars, denotes}
-use Rattle.nodejs_semver.proofs.Common.{drop_spaces, empty_is, encode_utf8, encode_utf8_all, false, filter_map, flat_map, get_or, if_any, inl, inr}
-use Rattle.nodejs_semver.proofs.Common.{is_empty, len_utf8_bounds, length, length-append, length-encode, list_all, list_all-append, list_any}
-use Rattle.nodejs_semver.proofs.Common.{list_any-map, map, middle_is_trim, nat_tests, or_right, part_bounds, part_denotes}
-use Rattle.nodejs_semver.proofs.Common.{parts, precedence, refl, run_writes, runs_of, space_len, subst, suc, sym, table, trim}
-use Rattle.nodejs_semver.proofs.Common.{trim_is_middle, true, word_at, words, zero, ℕ, ◌<◌, ◌↔◌, ◌∙◌, ◌∷◌, ◌≡◌, ◌≤◌, ◌⊎◌}
-use Rattle.nodejs_semver.proofs.{Dividing.RunsDivide.{part_divides, runs_are, words-none}, Reading.PartialLaw.{word-shorter, words-step}}
-use Rattle.nodejs_semver.{proofs.Reading.WordLaw.{word-utf8, words_are}, specs.{Internal.Writes.{part_writes, writes}, Text.Meaning.AreAllIntervals}}
-use Rattle.nodejs_semver.specs.Text.Meaning.{AreWords, HasRuns, IsBlankText, all_intervals, blank_piece, every_version, next_piece, next_word}
-use Rattle.{nodejs_semver.specs.Text.{Meaning.{no_piece, no_word}, WrittenSet.Writes}, semver_core.proofs.Dividing.BarsDivide.bars_divide}
+use Rattle.nodejs_semver.proofs.{Algebra.{Accepting.accepts-held, Holds.denotes_hold}, Common.{All-from_recursion, AllByRecursion, Any, Bool, IfNone}}
+use Rattle.nodejs_semver.proofs.Common.{IfSome, IsBlank, IsCutAtBars, IsSomeAnd, IsTrim, IsTrue, IsUtf8, List, Means, Option, Run, Span, VersionValue}
+use Rattle.nodejs_semver.proofs.Common.{Word, [], accepts, and_from, ap, append-nil, arith, cases_Bool, common_steps, cut_bars, denotes, drop_spaces}
+use Rattle.nodejs_semver.proofs.Common.{empty_is, encode_utf8, encode_utf8_all, false, filter_map, flat_map, has_bars, if_any, inl, inr, is_empty}
+use Rattle.nodejs_semver.proofs.Common.{len_utf8_bounds, length, length-append, length-encode, list_all, list_all-append, list_any, list_any-map, map}
+use Rattle.nodejs_semver.proofs.Common.{middle_is_trim, nat_tests, or_right, part_bounds, part_denotes, parts, precedence, refl, run_writes, runs_of}
+use Rattle.nodejs_semver.proofs.Common.{space_len, subst, suc, sym, table, trim, trim_is_middle, true, word_at, words, zero, ℕ, ◌<◌, ◌↔◌, ◌∙◌, ◌∷◌}
+use Rattle.nodejs_semver.proofs.{Common.{◌≡◌, ◌≤◌, ◌⊎◌}, Dividing.RunsDivide.{part_divides, runs_are, words-none}, Reading.PartialLaw.word-shorter}
+use Rattle.nodejs_semver.{proofs.Reading.{PartialLaw.words-step, WordLaw.{word-utf8, words_are}}, specs.Internal.Writes.{part_writes, writes}}
+use Rattle.nodejs_semver.specs.Text.Meaning.{AreAllIntervals, AreWords, HasRuns, IsBlankText, all_intervals, blank_piece, every_version, next_piece}
+use Rattle.{nodejs_semver.specs.Text.{Meaning.{next_word, no_piece, no_word}, WrittenSet.Writes}, semver_core.proofs.Dividing.BarsDivide.bars_divide}
 use Rattle.semver_core.proofs.{Dividing.BarsDivide.bars_once, Reading.Boundaries.{skips-is, skips-of, skips-utf8, spaces-gone, spaces-le, trim-utf8}}
-use Rattle.{semver_core.proofs.{Reading.Bytes.trim-starts, Text.Trims.trim_parts}}
+use Rattle.semver_core.{proofs.{Reading.Bytes.trim-starts, Text.Trims.trim_parts}, specs.Text.Bars.one_piece}
 use Rattle.std.proofs.lemmas.{Bool.false_from_ne_true, List.Folds.{Any-from_list_any, list_any-from_Any}}
-use Rattle.semver_core.specs.Text.Bars.{one_piece}
 pub use Rattle.semver_core.proofs.Dividing.BarsDivide.{pieces-utf8}
 
 -- ---- the words of a part
@@ -174,18 +171,9 @@ pub one_part : (limit : ℕ) (text part : List ℕ) → has_bars text ≡ false 
 one_part limit text part none trimmed =
     let cut : cut_bars false text ≡ text ∷ [] = sym (bars_once text (text ∷ []) (one_piece text none)) in
     let same : part ≡ trim text = middle_is_trim text part trimmed in
-    rw (same, cut) (elim (cases_Bool (is_empty (trim text))) [
-      | inl empty ↦ rw empty refl
-      | inr some ↦ rw some (sym (append-nil (part_intervals limit (trim text))))
-    ])
+    rw (same, cut) (grind (arith, append-nil))
 
 -- ---- what is computed of the versions that a text writes is what it writes
-
-piece-at : (pieces : List (List ℕ)) → AllByRecursion IsUtf8 pieces → (k : ℕ) (d : List ℕ) → k < length pieces
-    → IsUtf8 (get_or pieces k d)
-piece-at [] u k d h = absurd (omega arith)
-piece-at (piece ∷ pieces) u zero d h = u.0
-piece-at (piece ∷ pieces) u (suc k) d h = piece-at pieces u.1 k d (omega arith)
 
 -- what stands between bars writes the version
 abbrev PieceWrites : ℕ → VersionValue → List ℕ → Type 0
@@ -225,7 +213,7 @@ written limit text v u = (
     test piece = part_writes limit v (trim piece)
 
     at : {P : List ℕ → Type 0} (pieces : List (List ℕ)) → IsCutAtBars text pieces → (h : Any P pieces) → IsUtf8 h.1
-    at pieces cut h = subst IsUtf8 h.3 (piece-at pieces (pieces-utf8 text pieces cut u) h.0 h.1 h.2)
+    at pieces cut h = subst IsUtf8 h.3 (All-from_recursion IsUtf8 pieces (pieces-utf8 text pieces cut u) h.0 h.1 h.2)
 
 -- with pre-releases included, the intervals that a text means accept what it writes
 pub accepted_written : (limit : ℕ) (text : List ℕ) (list : List (Span VersionValue)) → IsUtf8 text → list ≡ denotes limit text

@@ -1,13 +1,10 @@
 -- Runs: one word more, what a run holds, and the running intervals.
-use Rattle.nodejs_semver.proofs.Common.{◌≡◌, List, [], ◌∷◌, ◌++◌, refl, sym, ap₂, ◌∙◌, true, false, Bool, arith, Ordering, ◌&&◌, not}
-use Rattle.nodejs_semver.proofs.Common.{if◌then◌else◌, is_gt, IsTotalOrder, and-true, list_all, Cut, Span, cut_cmp, greater_lower, holds}
-use Rattle.nodejs_semver.proofs.Common.{is_past, lesser_upper, lower_cut, upper_cut, Bound, between_parts, cut_total, gt_lt, past_lt, Run}
-use Rattle.nodejs_semver.proofs.Common.{fits, interval_of, run_writes, longer, ap, map, Some, None, Option, meet, runs_of, runs_from}
-use Rattle.nodejs_semver.proofs.Common.{joined, joined_from, inl, inr, cases_Bool, lt_trans}
-use Rattle.std.specs.Cmp.{upto}
-use Rattle.std.proofs.Math.Bool.{not-not}
-use Rattle.semver_core.proofs.CutLaws.{is_past-greater_lower, is_past-lesser_upper}
-use Rattle.nodejs_semver.specs.{Text.Runs.{greatest_lower, least_upper}, Text.WrittenSet.{is_above, is_below}}
+use Rattle.nodejs_semver.proofs.Common.{Bool, Bound, Cut, IsTotalOrder, List, None, Option, Ordering, Run, Some, Span, [], ap, arith, between_parts}
+use Rattle.nodejs_semver.proofs.Common.{cases_Bool, cut_cmp, cut_total, false, fits, greater_lower, gt_lt, holds, if◌then◌else◌, inl, inr}
+use Rattle.nodejs_semver.proofs.Common.{interval_of, is_gt, is_past, joined, joined_from, lesser_upper, list_all, longer, lower_cut, lt_trans, map}
+use Rattle.nodejs_semver.proofs.Common.{meet, not, past_lt, refl, run_writes, runs_from, runs_of, sym, true, upper_cut, ◌&&◌, ◌++◌, ◌∙◌, ◌∷◌, ◌≡◌}
+use Rattle.nodejs_semver.specs.Text.{Runs.{greatest_lower, least_upper}, WrittenSet.{is_above, is_below}}
+use Rattle.{semver_core.proofs.CutLaws.{is_past-greater_lower, is_past-lesser_upper}, std.{proofs.Math.Bool.not-not, specs.Cmp.upto}}
 
 -- the second of two where g says so
 later_assoc : {A : Type 0} (g : A → A → Bool) → ((x y z : A) → g x y ≡ true → g y z ≡ true → g x z ≡ true)
@@ -26,18 +23,16 @@ module _ {V : Type 0} {R : V → V → Ordering} (o : IsTotalOrder R) where
   greater_assoc b c d = grind (arith, later_assoc, gt_trans, upto, cut_total)
 
   -- the greatest lower bound with one word more, and the least upper bound
-  greatest-push : (s : Span V) (ts : List (Span V)) (u : Span V) → greatest_lower R s (ts ++ u ∷ []) ≡ greater_lower R (greatest_lower R s ts) u.lower
-  greatest-push s [] u = refl
-  greatest-push s (t ∷ rest) u = grind (arith, greater_assoc, greatest-push t rest u)
-
-  least-push : (s : Span V) (ts : List (Span V)) (u : Span V) → least_upper R s (ts ++ u ∷ []) ≡ lesser_upper R (least_upper R s ts) u.upper
-  least-push s [] u = refl
-  least-push s (t ∷ rest) u = grind (arith, lesser_assoc, least-push t rest u)
+  ends-push : (s : Span V) (ts : List (Span V)) (u : Span V)
+      → (greatest_lower R s (ts ++ u ∷ []) ≡ greater_lower R (greatest_lower R s ts) u.lower)
+      × (least_upper R s (ts ++ u ∷ []) ≡ lesser_upper R (least_upper R s ts) u.upper)
+  ends-push s [] u = (refl, refl)
+  ends-push s (t ∷ rest) u = grind (arith, greater_assoc, lesser_assoc, ends-push t rest u)
 
   -- the interval of a run with one word more
   pub longer-is : (r : Run V) (s : Span V)
       → interval_of R (longer r s) ≡ record { lower = greater_lower R (interval_of R r).lower s.lower; upper = lesser_upper R (interval_of R r).upper s.upper }
-  longer-is r s = ap₂ (λ (l u : Bound V). record { lower = l; upper = u }) (greatest-push r.first r.others s) (least-push r.first r.others s)
+  longer-is r s = grind (arith, ends-push r.first r.others s)
 
   -- a run that fits with one word more fits without it
   pub fits-shrinks : (r : Run V) (s : Span V) → fits R (longer r s) ≡ true → fits R r ≡ true
@@ -51,11 +46,11 @@ module _ {V : Type 0} {R : V → V → Ordering} (o : IsTotalOrder R) where
   past-below b v = grind (arith, past-above, not-not)
 
   above-all : (v : V) (s : Span V) (ts : List (Span V)) → is_past R (lower_cut (greatest_lower R s ts)) v ≡ list_all (λ k. is_above R k.lower v) (s ∷ ts)
-  above-all v s [] = past-above s.lower v ∙ sym (and-true (is_above R s.lower v))
+  above-all v s [] = grind (arith, past-above)
   above-all v s (t ∷ rest) = grind (arith, is_past-greater_lower, past-above, above-all v t rest)
 
   below-all : (v : V) (s : Span V) (ts : List (Span V)) → not (is_past R (upper_cut (least_upper R s ts)) v) ≡ list_all (λ k. is_below R k.upper v) (s ∷ ts)
-  below-all v s [] = past-below s.upper v ∙ sym (and-true (is_below R s.upper v))
+  below-all v s [] = grind (arith, past-below)
   below-all v s (t ∷ rest) = grind (arith, is_past-lesser_upper, past-below, below-all v t rest)
 
   all-both : (p q : Span V → Bool) (ss : List (Span V)) → (list_all p ss && list_all q ss) ≡ list_all (λ s. p s && q s) ss
@@ -92,13 +87,11 @@ module _ {V : Type 0} {R : V → V → Ordering} (o : IsTotalOrder R) where
   runs_from-joined r (i ∷ is) =
       elim (cases_Bool (fits R (longer r i))) [
         | inl goes ↦
-            ap (λ (rs : List (Run V)). map (interval_of R) rs) (runs-goes R r i is goes)
-            ∙ (runs_from-joined (longer r i) is ∙ sym (joined-goes R (interval_of R r) i (interval_of R (longer r i)) is
-            (grind (arith, longer-is))))
+            let m : meet R (interval_of R r) i ≡ Some (interval_of R (longer r i)) = grind (arith, longer-is) in
+            rw (runs-goes R r i is goes, joined-goes R (interval_of R r) i _ is m) (runs_from-joined (longer r i) is)
         | inr stops ↦
-            ap (λ (rs : List (Run V)). map (interval_of R) rs) (runs-stops R r i is stops)
-            ∙ (ap (λ (js : List (Span V)). interval_of R r ∷ js) (runs_from-joined (record { first = i; others = [] }) is)
-            ∙ sym (joined-stops R (interval_of R r) i is (grind (arith, longer-is))))
+            let m : meet R (interval_of R r) i ≡ None = grind (arith, longer-is) in
+            rw (runs-stops R r i is stops, joined-stops R (interval_of R r) i is m, runs_from-joined (record { first = i; others = [] }) is) refl
       ]
 
   -- what the reader of a part computes is the intervals of its runs

@@ -3,7 +3,7 @@ use Rattle.nodejs_semver.proofs.{Bounds.TableRows.table-interval, Common.{AllByR
 use Rattle.nodejs_semver.proofs.Common.{Some, Span, VersionValue, [], and_parts, ap, append-nil, append_assoc, arith, cases_Bool, common_steps, false}
 use Rattle.nodejs_semver.proofs.Common.{filter_map, fits, flat_map, inl, inr, is_interval, joined, joined_from, length, length-append, list_all}
 use Rattle.nodejs_semver.proofs.Common.{longer, meet, nat_tests, next_at, part_bounds, part_intervals, precedence, precedence_total, refl, run_items}
-use Rattle.nodejs_semver.proofs.Common.{runs_from, runs_of, space_len, subst, sym, table, true, words, words_within, ℕ, ◌++◌, ◌<◌, ◌∙◌, ◌∷◌, ◌≡◌}
+use Rattle.nodejs_semver.proofs.Common.{runs_from, runs_of, space_len, table, true, words, words_within, ℕ, ◌++◌, ◌<◌, ◌∙◌, ◌∷◌, ◌≡◌}
 use Rattle.nodejs_semver.proofs.Dividing.RunLemmas.{fits-shrinks, joined-goes, joined-stops, runs-goes, runs-joined, runs-stops}
 use Rattle.nodejs_semver.{proofs.Reading.PartialLaw.{word-shorter, words-step}, specs.Text.Runs.{AreLongest, AreRuns}}
 use Rattle.{semver_core.proofs.Reading.{Boundaries.{spaces-gone, spaces-le}, Steps.option-cases}, std.specs.List.cons_option}
@@ -12,13 +12,10 @@ abbrev pub single : {V : Type 0} → Span V → Run V
 single s = record { first = s; others = [] }
 
 module _ {V : Type 0} (R : V → V → Ordering) where
-  abbrev AreFitting : List (Run V) → Type 0
-  AreFitting runs = AllByRecursion (λ r. fits R r ≡ true) runs
-
   -- the runs that begin with the run under way
   record Divides (r : Run V) (bounds : List (Span V)) (runs : List (Run V)) : Type 0 where
     pub whole : flat_map run_items runs ≡ run_items r ++ bounds
-    pub each : AreFitting runs
+    pub each : AllByRecursion (λ r. fits R r ≡ true) runs
     pub longest : AreLongest R runs
     pub behind : (q : Run V) → fits R (longer q r.first) ≡ false → AreLongest R (q ∷ runs)
 
@@ -30,21 +27,10 @@ module _ {V : Type 0} (R : V → V → Ordering) where
       let (first, others) = and_parts (is_interval R s) (list_all (is_interval R) rest) all in
       elim (cases_Bool (fits R (longer r s))) [
         | inl goes ↦
-            let more = from-here (longer r s) rest goes others in
-            subst (λ (rs : List (Run V)). Divides r (s ∷ rest) rs) (sym (runs-goes R r s rest goes)) (record {
-              whole = more.whole ∙ ap (λ (l : List (Span V)). r.first ∷ l) (append_assoc r.others (s ∷ []) rest);
-              each = more.each;
-              longest = more.longest;
-              behind = more.behind;
-            })
+            grind (arith, runs-goes R r s rest, append_assoc, from-here (longer r s) rest goes others)
         | inr stops ↦
             let more = from-here (single s) rest first others in
-            subst (λ (rs : List (Run V)). Divides r (s ∷ rest) rs) (sym (runs-stops R r s rest stops)) (record {
-              whole = ap (λ (l : List (Span V)). run_items r ++ l) more.whole;
-              each = (one, more.each);
-              longest = more.behind r stops;
-              behind = λ q h. (h, more.behind r stops);
-            })
+            grind (arith, runs-stops R r s rest, more, more.behind r stops)
       ]
 
   pub runs-divide : (bounds : List (Span V)) → list_all (is_interval R) bounds ≡ true → AreRuns R bounds (runs_of R bounds)
@@ -76,14 +62,8 @@ extended r xs = record { first = r.first; others = r.others ++ xs }
 module _ {V : Type 0} {R : V → V → Ordering} (o : IsTotalOrder R) where
   -- a run that fits with more words fits without them
   shrinks-all : (r : Run V) (xs : List (Span V)) → fits R (extended r xs) ≡ true → fits R r ≡ true
-  shrinks-all r [] h = subst (λ (l : List (Span V)). fits R (record { first = r.first; others = l }) ≡ true) (append-nil r.others) h
+  shrinks-all r [] h = grind (arith, append-nil)
   shrinks-all r (x ∷ xs) h = grind (arith, nat_tests, common_steps, fits-shrinks, append_assoc, shrinks-all (longer r x) xs)
-
-  with-none : (r : Run V) → extended r [] ≡ r
-  with-none r = ap (λ (l : List (Span V)). record { first = r.first; others = l }) (append-nil r.others)
-
-  with-more : (r : Run V) (x : Span V) (xs : List (Span V)) → extended r (x ∷ xs) ≡ extended (longer r x) xs
-  with-more r x xs = ap (λ (l : List (Span V)). record { first = r.first; others = l }) (sym (append_assoc r.others (x ∷ []) xs))
 
   -- the runs that begin with the run under way, whose other words are xs, where those that follow are what is made of them
   from-run : (r : Run V) (xs : List (Span V)) (rest : List (Run V))
@@ -91,9 +71,9 @@ module _ {V : Type 0} {R : V → V → Ordering} (o : IsTotalOrder R) where
       → fits R (extended r xs) ≡ true → AreLongest R (extended r xs ∷ rest)
       → runs_from R r (xs ++ flat_map run_items rest) ≡ extended r xs ∷ rest
   unfolding runs_from
-  from-run r [] rest last fit longest = grind (arith, with-none)
+  from-run r [] rest last fit longest = grind (arith, append-nil)
   from-run r (x ∷ xs) rest last fit longest =
-      grind (arith, nat_tests, shrinks-all (longer r x) xs, with-more r x xs, from-run (longer r x) xs rest last)
+      grind (arith, nat_tests, shrinks-all (longer r x) xs, append_assoc r.others (x ∷ []) xs, from-run (longer r x) xs rest last)
 
   from-last : (r : Run V) (rest : List (Run V)) → AllByRecursion (λ r. fits R r ≡ true) rest → AreLongest R (r ∷ rest)
       → runs_from R r (flat_map run_items rest) ≡ r ∷ rest

@@ -3,7 +3,7 @@ use Rattle.nodejs_semver.proofs.Common.{All, Bool, Bor, Contains, Contains-appen
 use Rattle.nodejs_semver.proofs.Common.{None, Option, Ordering, Some, VersionValue, [], all_weaker, and_from, ap, append_assoc, arith, cases_Bool}
 use Rattle.nodejs_semver.proofs.Common.{common_steps, false, get_or, if◌then◌else◌, is_le, is_lt, length, list_all-append, map, nat_tests, not}
 use Rattle.nodejs_semver.proofs.Common.{not-true, option_copied, precedence, precedence_total, refl, replaces, subst, sym, take, tied_itself, true, ℕ}
-use Rattle.{nodejs_semver.proofs.{Common.{◌&&◌, ◌++◌, ◌+◌, ◌<◌, ◌||◌, ◌∙◌, ◌∷◌, ◌≡◌, IsMaxOf, IsMinOf, list_all-map, map-append, take_next, value_of}}, semver_core.proofs.Gate.le_of_lt}
+use Rattle.{nodejs_semver.proofs.{Common.{◌&&◌, ◌++◌, ◌+◌, ◌<◌, ◌∙◌, ◌∷◌, ◌≡◌, IsMaxOf, IsMinOf, list_all-map, map-append, take_next, value_of}}, semver_core.proofs.Gate.le_of_lt}
 use Rattle.semver_core.proofs.Gate.{le_trans, lt_is, lt_le}
 
 -- what holds of the two relations of the best
@@ -88,11 +88,8 @@ Says beaten set list r = IfSome r (λ v. Contains list v.now) × IfSome r (λ v.
 
 module _ {V : Type 0} (in_front behind beaten : V → V → Bool) (front : (w v : V) → in_front w v ≡ true → beaten w v ≡ true)
     (back : (w v : V) → behind w v ≡ true → beaten w v ≡ true) (tied : (v : V) → beaten v v ≡ true) (set : V → Bool) where
-  in_set_only : (s a b : Bool) → (a ≡ true → b ≡ true) → (not s || a) ≡ true → s ≡ true → b ≡ true
-  in_set_only s a b f h k = grind arith
-
   all_beaten : (list : List V) (v : V) → IsBest in_front behind set list (Some v) → All (λ w. set w ≡ true → beaten w v ≡ true) list
-  all_beaten list v h = grind (arith, nat_tests, common_steps, in_set_only)
+  all_beaten list v h = grind (arith, nat_tests, common_steps)
 
   best_says : (list : List V) (r : Option (Bor V)) → IsBest in_front behind set list (option_copied r) → Says beaten set list r
   best_says list None h = grind (arith, nat_tests, common_steps, not-true)
@@ -100,12 +97,9 @@ module _ {V : Type 0} (in_front behind beaten : V → V → Bool) (front : (w v 
       let member = Contains-append_right h.1 (v.now ∷ h.2) v.now (0, omega arith, refl) in
       (subst (λ l. Contains l v.now) (sym h.3) member, h.0, all_beaten list v.now h, tt)
 
-tied_le : (v : VersionValue) → is_le (precedence v v) ≡ true
-tied_le v = grind (arith, tied_itself, precedence_total)
-
 module _ {W : Type 0} (value : W → VersionValue) (set : VersionValue → Bool) (list : List W) (r : Option (Bor W)) where
   pub max_says : IsMaxOf value set list (option_copied r) → Says (λ w v. is_le (precedence (value w) (value v))) (λ w. set (value w)) list r
-  max_says = best_says _ _ _ (λ w v h. h) (λ w v h. le_of_lt (precedence (value w) (value v)) h) (λ v. tied_le (value v)) _ list r
+  max_says = best_says _ _ _ (λ w v h. h) (λ w v h. le_of_lt (precedence (value w) (value v)) h) (λ v. ap is_le (tied_itself precedence_total (value v))) _ list r
 
   pub min_says : IsMinOf value set list (option_copied r) → Says (λ w v. is_le (precedence (value v) (value w))) (λ w. set (value w)) list r
-  min_says = best_says _ _ _ (λ w v h. le_of_lt (precedence (value v) (value w)) h) (λ w v h. h) (λ v. tied_le (value v)) _ list r
+  min_says = best_says _ _ _ (λ w v h. le_of_lt (precedence (value v) (value w)) h) (λ w v h. h) (λ v. ap is_le (tied_itself precedence_total (value v))) _ list r

@@ -1,5 +1,5 @@
 -- Entries in order: where they are searched, and the bounds furthest up.
-use Rattle.nodejs_semver.proofs.Common.{After, AllWithin, Before, Bool, Bound, Equal, Greater, IsTotalOrder, Less, List, Ordering, Span, Unbounded}
+use Rattle.nodejs_semver.proofs.Common.{AllWithin, Bool, Bound, Equal, Greater, IsTotalOrder, Less, List, Ordering, Span, Unbounded}
 use Rattle.nodejs_semver.proofs.Common.{VersionValue, [], alike_right, any_same, ap, ap₂, arith, cut_cmp, cut_total, false, get_or}
 use Rattle.nodejs_semver.proofs.Common.{holds, if◌then◌else◌, is_eq, is_lt, is_past, is_past-down, length, length-append, list_any, list_any-append, lower_cut}
 use Rattle.nodejs_semver.proofs.Common.{gt_lt, is_le, not, one_way, or-false, ordering_then, precedence, precedence_total, refl, subst, suc, sym, take, take_next, tied_itself, true}
@@ -8,9 +8,9 @@ use Rattle.nodejs_semver.specs.Internal.Index.{AreEnds, AreInOrder, Entry, IsEnd
 use Rattle.std.proofs.lemmas.Cmp.{on_total, tied_back, then_total, upto}
 use Rattle.std.proofs.lemmas.List.{get_or_default, Sorted.{IsPartitionedBy-leb, list_any-IsPermutation, ranks_by, searchable_from_sorted, sorted_far}}
 use Rattle.std.specs.{List.Sorted.{IsPartitionedBy, IsPartitionPoint}, Ordering.ordering_index}
-use Rattle.std.proofs.lemmas.List.{get_or_append_left, get_or_push}
+use Rattle.std.proofs.lemmas.List.{Folds.list_any_none, get_or-take, get_or_append_left, get_or_push, length-take}
 use Rattle.std.specs.Prelude.{leb}
-use Rattle.nodejs_semver.proofs.Common.{common_steps, Bor, Cut, and-true, passes, tells, None, Option, Some, accepts, not-true, not_if, option_map, option_to_list, better_kept, fold, wanted, all_accept, list_all-append, append-nil, append_assoc, flat_map-append, has_bound, map-append, span_of, spans_of, any_flat, bound_of, cond_both, is_release, lets_in, list_any-map, names, same_triple}
+use Rattle.nodejs_semver.proofs.Common.{common_steps, Bor, Cut, and-true, passes, tells, None, Option, Some, accepts, not-true, not_if, option_map, option_to_list, better_kept, fold, wanted, all_accept, list_all-append, append-nil, append_assoc, flat_map-append, has_bound, map-append, span_of, spans_of, any_flat, bound_of, cond_both, is_release, lets_in, list_any-map, names, same_triple, IfSome, is_some}
 use Rattle.nodejs_semver.specs.Internal.Candidates.{bare_release}
 use Rattle.nodejs_semver.specs.Internal.Candidates as candidate
 use Rattle.nodejs_semver.specs.{Ranges.Unions.says_all, Words.covers}
@@ -37,11 +37,8 @@ parted n b es h =
 
 none_of_front : {A : Type 0} (p : A → Bool) (xs : List A) (m : ℕ) (d : A) → ((i : ℕ) → i < m → i < length xs → p (get_or xs i d) ≡ false)
     → list_any p (take m xs) ≡ false
-none_of_front p [] zero d h = refl
-none_of_front p [] (suc m) d h = refl
-none_of_front p (x ∷ xs) zero d h = refl
-none_of_front p (x ∷ xs) (suc m) d h =
-    grind (arith, h 0, none_of_front p xs m d (λ i a b. h (suc i) (omega arith) (omega arith)))
+none_of_front p xs m d h =
+    list_any_none p (take m xs) (λ i e l. grind (arith, get_or-take m xs i e, get_or_default xs i e d, length-take m xs, h i))
 
 -- an entry that does not come behind one of lesser numbers has lesser ones too
 lesser_by : (e f n : VersionValue) (r s : Ordering) → precedence f e ≡ r → is_lt (ordering_then r s) ≡ false → precedence f n ≡ Less → precedence e n ≡ Less
@@ -58,7 +55,7 @@ none_of es k d n q o l h = none_of_front (λ e. is_of n e && q e) es (k + 1) d (
     let up = sorted_far (λ (x y : Entry). is_lt (place_cmp x y)) (ranks_by place_total (λ (x : Entry). x)) es o i k d (omega arith) l in
     ap (λ r. is_eq r && q e) (lesser_by e.0 f.0 n (precedence f.0 e.0) _ refl up h))
 
-equal_is : (r : Ordering) → is_eq r ≡ true → r ≡ Equal
+pub equal_is : (r : Ordering) → is_eq r ≡ true → r ≡ Equal
 equal_is r h = grind arith
 
 less_is : (r : Ordering) (p : Bool) → (elim r [ Less ↦ true | Equal ↦ p | Greater ↦ false ]) ≡ true → is_eq r ≡ false → r ≡ Less
@@ -160,9 +157,7 @@ module _ (es : List Entry) (k : ℕ) (e f : Entry) (b : Bound VersionValue) (q :
 
   next_by : (s t : Bool) → is_of e.0 f ≡ s → is_further_up b f.1.upper ≡ t
       → q (upper_cut (if s && t then b else f.1.upper)) ≡ (list_any own (take (k + 1) es) || own f)
-  next_by true true i j = sym (ap₂ (λ p q. p || q) (of_front i) (of_itself f q) ∙ further b f.1.upper q u j)
-  next_by true false i j = sym (ap₂ (λ p q. p || q) (of_front i) (of_itself f q) ∙ not_further b f.1.upper q u j)
-  next_by false t i j = sym (ap₂ (λ p q. p || q) (no_front i) (of_itself f q))
+  next_by s t i j = grind (arith, of_front, no_front, of_itself f q, further b f.1.upper q u, not_further b f.1.upper q u)
 
 pub next_end : (es : List Entry) (k i : ℕ) (e f : Entry) (b : Bound VersionValue) (t : Bool) → AreInOrder es → i ≡ k + 1 → i < length es
     → e ≡ get_or es k e → f ≡ get_or es i f → IsEnd es k b → ends_below f e.0 b ≡ t → IsEnd es i (if t then b else f.1.upper)
@@ -201,18 +196,13 @@ hold_at s w v = cond_both (is_release w) None (Some (bare_release w))
 
 hold_named : (s : Span VersionValue) (b : Bound VersionValue) (v : VersionValue)
     → list_any (held (bare_release v) v) (named_entries s b) ≡ (names b v && holds precedence s v)
-hold_named s Unbounded v = refl
-hold_named s (Before w) v = hold_at s w v
-hold_named s (After w) v = hold_at s w v
+hold_named s b v = grind (arith, hold_at)
 
 gathered : (r p q h : Bool) → r ≡ false → ((p && h) || (q && h)) ≡ (h && (false || (r || (p || q))))
 gathered r p q h e = grind arith
 
-admitted : (h r n : Bool) → r ≡ true → h ≡ (h && (false || (r || n)))
-admitted h r n e = grind arith
-
 release_hold : (v : VersionValue) (ss : List (Span VersionValue)) → is_release v ≡ true → entries_hold (all_entries ss) candidate.zero v ≡ accepts ss v false
-release_hold v ss r = list_any-map (held candidate.zero v) (λ s. (candidate.zero, s)) ss ∙ any_same _ _ (λ s. admitted (holds precedence s v) (is_release v) (has_bound (λ w. not (is_release w) && same_triple w v) s) r) ss
+release_hold v ss r = list_any-map (held candidate.zero v) (λ s. (candidate.zero, s)) ss ∙ any_same _ _ (λ s. rw r (sym (and-true (holds precedence s v)))) ss
 
 pre_hold : (v : VersionValue) (ss : List (Span VersionValue)) → is_release v ≡ false → entries_hold (pre_entries ss) (bare_release v) v ≡ accepts ss v false
 pre_hold v ss r = any_flat (held (bare_release v) v) (λ s. named_entries s s.lower ++ named_entries s s.upper) ss
@@ -254,31 +244,18 @@ names_at x w n e =
     grind (arith, same_numbers x w, tied)
 
 names_is : (b : Bound VersionValue) (w n : VersionValue) → precedence (bare_release w) n ≡ Equal → names b w ≡ has_numbers n b
-names_is Unbounded w n e = refl
-names_is (Before x) w n e = names_at x w n e
-names_is (After x) w n e = names_at x w n e
+names_is b w n e = grind (arith, names_at)
 
 -- a version of a bound is let in by what has its numbers, and a release by all
-kept_at : (s : Span VersionValue) (w n m : VersionValue) (r : Bool) → is_release w ≡ r → (if r then None else Some (bare_release w)) ≡ Some m
-    → precedence m n ≡ Equal → not (lets_in s w) ≡ not (numbers_of n s)
-kept_at s w n m r k h e = grind (arith, names_is)
-
-let_at : (s : Span VersionValue) (w : VersionValue) (r : Bool) → is_release w ≡ r → (if r then None else Some (bare_release w)) ≡ None
-    → not (lets_in s w) ≡ false
-let_at s w r k h = grind arith
-
 kept_out : (s : Span VersionValue) (b : Bound VersionValue) (n m : VersionValue) → named b ≡ Some m → precedence m n ≡ Equal
     → passes (λ w. not (lets_in s w)) b ≡ not (numbers_of n s)
-kept_out s b n m h e = grind (arith, kept_at)
+kept_out s b n m h e = grind (arith, names_is)
 
 let_in : (s : Span VersionValue) (b : Bound VersionValue) → named b ≡ None → passes (λ w. not (lets_in s w)) b ≡ false
-let_in s b h = grind (arith, let_at)
+let_in s b h = grind arith
 
 either_covers : (p q c : Bool) → ((p && c) || (q && c)) ≡ (c && not (not (p || q)))
 either_covers p q c = grind arith
-
-or_same : (p : Bool) → (p || p) ≡ p
-or_same p = grind arith
 
 -- the three ways in which t's bounds may have numbers
 module _ (t : Span VersionValue) (ss : List (Span VersionValue)) (i : Indexed) (h : IsIndexOf ss i) where
@@ -297,20 +274,11 @@ module _ (t : Span VersionValue) (ss : List (Span VersionValue)) (i : Indexed) (
       ∙ any_same _ _ (λ s. sym (and-true (covers precedence s t))
       ∙ ap (λ a. covers precedence s t && not a) (sym (ap₂ (λ a b. a || b) (let_in s t.lower p) (let_in s t.upper q)))) ss
 
-  pub say_lower : (n : VersionValue) → named t.lower ≡ Some n → named t.upper ≡ None → entries_cover i.1 n t ≡ list_any (λ s. says_all s t) ss
-  say_lower n p q =
-      let own = tied_itself precedence_total n in
-      among n (λ s. grind (arith, kept_out s t.lower n n p own, let_in s t.upper q))
-
-  pub say_upper : (n : VersionValue) → named t.lower ≡ None → named t.upper ≡ Some n → entries_cover i.1 n t ≡ list_any (λ s. says_all s t) ss
-  say_upper n p q =
-      let own = tied_itself precedence_total n in
-      among n (λ s. grind (arith, let_in s t.lower p, kept_out s t.upper n n q own))
-
-  pub say_both : (n m : VersionValue) → named t.lower ≡ Some n → named t.upper ≡ Some m → is_eq (precedence n m) ≡ true
-      → entries_cover i.1 n t ≡ list_any (λ s. says_all s t) ss
-  say_both n m p q e = among n (λ s. ap₂ (λ a b. a || b) (kept_out s t.lower n n p (tied_itself precedence_total n))
-      (kept_out s t.upper n m q (tied_back precedence_total n m (equal_is _ e))) ∙ or_same _)
+  -- the bounds have numbers that tie with n, one of them or both
+  pub say_named : (n : VersionValue) (l u : Option VersionValue) → named t.lower ≡ l → named t.upper ≡ u → (is_some l || is_some u) ≡ true
+      → IfSome l (λ m. precedence m n ≡ Equal) → IfSome u (λ m. precedence m n ≡ Equal) → entries_cover i.1 n t ≡ list_any (λ s. says_all s t) ss
+  say_named n l u p q some h k =
+      among n (λ s. grind (arith, kept_out s t.lower n, kept_out s t.upper n, let_in s t.lower, let_in s t.upper))
 
 -- the index of one more list
 pub all_further : (is new : List Indexed) (rs : List (List (Span VersionValue))) (k : ℕ) (r : List (Span VersionValue)) (i : Indexed) (v : VersionValue)

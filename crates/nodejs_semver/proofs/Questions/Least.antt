@@ -1,25 +1,22 @@
 -- The least version beyond is the first of its kind past a mark: a lower cut of what is kept, an upper cut of what is removed,
 -- or the cut below the pre-releases that an upper bound of what is kept names. First what comes next after a version.
 use Rattle.nodejs_semver.proofs.Common.{After, All, All-append, All-cons, All-from_recursion, All-head, All-nil, All-tail, Before, Beside, Bool}
-use Rattle.nodejs_semver.proofs.Common.{Bound, Cut, End, Equal, Far, Id, IfSome, IsLeastOf, Less, List, Near, None, Numeric, Option, Ordering, Some}
-use Rattle.nodejs_semver.proofs.Common.{Span, Start, Unbounded, VersionValue, [], above_patch, accepts, alike_right, all_accept, all_flat, all_weaker}
-use Rattle.nodejs_semver.proofs.Common.{and-true, and_from, and_parts, any_flat, any_same, any_under, ap, arith, begins_with, below_named}
+use Rattle.nodejs_semver.proofs.Common.{Bound, Cut, End, Equal, Far, Id, IfSome, IsLeastOf, IsTrue, Less, List, Near, None, Numeric, Option, Ordering}
+use Rattle.nodejs_semver.proofs.Common.{Some, Span, Start, Unbounded, VersionValue, [], above_patch, accepts, alike_right, all_accept, all_flat}
+use Rattle.nodejs_semver.proofs.Common.{all_weaker, and-true, and_from, and_parts, any_flat, any_same, any_under, ap, arith, begins_with, below_named}
 use Rattle.nodejs_semver.proofs.Common.{beside, better, beyond, bool_cmp, build_by, candidates, cases_Bool, chain, common_steps, cond_both, cut_total}
-use Rattle.nodejs_semver.proofs.Common.{empty_is, false, find, first_so, firsts, flat_map, fold, gt_lt, holds, if◌then◌else◌, inl, inr}
-use Rattle.nodejs_semver.proofs.Common.{irreflexive, is_gt, is_le, is_past, is_past-down, is_release, least_build, least_of, length, lets_in}
-use Rattle.nodejs_semver.proofs.Common.{list_all, list_all-append, list_any, list_marks, lower_cut, map, names, nat_tests, not, not-true, not_above}
-use Rattle.nodejs_semver.proofs.Common.{or-false, or_cases, or_left, or_right, past_lt, pick_both, pre_cmp}
-use Rattle.nodejs_semver.proofs.Common.{precedence, precedence_total, refl, release_value, removed_marks, second_so, subst, sym, tells, tied_itself}
-use Rattle.nodejs_semver.proofs.Common.{true, upper_cut, version_eq, wanted, ◌&&◌, ◌++◌, ◌<◌, ◌||◌, ◌∙◌, ◌∷◌, ◌≡◌}
-use Rattle.nodejs_semver.proofs.{Common.{IsTrue, ◌↔◌}, Questions.Unions.by_least}
-use Rattle.nodejs_semver.specs.{Internal.Candidates.{better_kept, kept}, Ranges.Subsets.IsSubset}
-use Rattle.std.specs.Prelude.{is_none, is_some}
-use Rattle.nodejs_semver.specs.Internal.Candidates.{after_cut, among, bare, bare_release, below_at, first_past, first_pre, improves, is_reached}
-use Rattle.{nodejs_semver.specs.Internal.Candidates.{kept_marks, patch_after, pre_after, release_after, zero}, semver_core.proofs.Gate.below}
-use Rattle.semver_core.proofs.Gate.{in_order, le_of_lt, le_trans, lt_is, named, named_parts, not_gt_then, past_order, pre_upto, same_triple_is}
+use Rattle.nodejs_semver.proofs.Common.{empty_is, false, find, first_so, firsts, flat_map, fold, gt_lt, holds, if◌then◌else◌, inl, inr, irreflexive}
+use Rattle.nodejs_semver.proofs.Common.{is_gt, is_le, is_past, is_past-down, is_release, least_build, least_of, length, lets_in, list_all}
+use Rattle.nodejs_semver.proofs.Common.{list_all-append, list_any, list_marks, lower_cut, map, names, nat_tests, not, not-true, not_above, or-false}
+use Rattle.nodejs_semver.proofs.Common.{or_cases, or_left, or_right, past_lt, pick_both, pre_cmp, precedence, precedence_total, refl, release_value}
+use Rattle.nodejs_semver.proofs.Common.{removed_marks, second_so, subst, sym, tells, tied_itself, true, upper_cut, version_eq, wanted, ◌&&◌, ◌++◌}
+use Rattle.nodejs_semver.{proofs.{Common.{◌<◌, ◌||◌, ◌↔◌, ◌∙◌, ◌∷◌, ◌≡◌}, Questions.Unions.by_least}, specs.Internal.Candidates.{after_cut, among}}
+use Rattle.nodejs_semver.specs.Internal.Candidates.{bare, bare_release, below_at, better_kept, first_past, first_pre, improves, is_reached, kept}
+use Rattle.nodejs_semver.specs.{Internal.Candidates.{kept_marks, patch_after, pre_after, release_after}, Ranges.Subsets.IsSubset}
+use Rattle.semver_core.proofs.Gate.{below, in_order, le_of_lt, le_trans, lt_is, named, named_parts, not_gt_then, past_order, pre_upto, same_triple_is}
 use Rattle.semver_core.proofs.{Gate.{triple_between, triple_cmp, triple_total, triple_upto, upto_by_both}, Values.NextLaws.first_of_all}
 use Rattle.semver_core.{proofs.Values.NextLaws.{least_after_pre_release, least_after_release}, specs.Internal.Successors.{above_pre, below_cases}}
-use Rattle.semver_core.specs.Internal.Successors.{below_more, upto_patch, zero_least}
+use Rattle.{semver_core.specs.Internal.Successors.{below_more, upto_patch, zero_least}, std.specs.Prelude.{is_none, is_some}}
 
 pub le_not_gt : (r : Ordering) → is_le r ≡ true → is_gt r ≡ false
 le_not_gt r h = not-true _ (sym (tells r).0 ∙ h)
@@ -29,9 +26,6 @@ pub first_pre_least : (w v : VersionValue) → triple_cmp w v ≡ Equal → is_g
 first_pre_least w v e = upto_by_both (first_pre w) v (ap is_gt e) (le_not_gt _ (zero_least v.pre_release))
 
 -- the list with Numeric 0 after it is above it, and not above what is above it
-pub next_pre : (w : VersionValue) → is_release w ≡ false → is_release (pre_after w) ≡ false
-next_pre w k = grind arith
-
 pub next_pre_above : (w : VersionValue) → is_release w ≡ false → precedence w (pre_after w) ≡ Less
 next_pre_above w k = grind (arith, above_pre, below_more)
 
@@ -47,10 +41,6 @@ next_patch_above w = above_patch w (patch_after w) refl refl (omega arith)
 -- the next patch of a release is not above a release that is above it
 pub next_patch_least : (w v : VersionValue) → w.pre_release ≡ [] → v.pre_release ≡ [] → precedence w v ≡ Less → is_gt (precedence (patch_after w) v) ≡ false
 next_patch_least w v e f h = grind (arith, nat_tests, below_cases w v h, le_not_gt)
-
--- 0.0.0 is the least release
-pub zero_first : (v : VersionValue) → v.pre_release ≡ [] → is_gt (precedence zero v) ≡ false
-zero_first v e = grind (arith, le_not_gt, upto_patch)
 
 -- ---- the greatest mark
 
@@ -119,17 +109,18 @@ near_begins w v h k =
 
 begins_release : (g : Cut VersionValue) (v : VersionValue) → is_release v ≡ true → is_past precedence g v ≡ true
     → (P : VersionValue → Bool) → ((x : VersionValue) → Begins g v x → P x ≡ true) → list_any P (firsts g) ≡ true
-begins_release Start v k h P f = grind (arith, zero_first, empty_is, kind_of_release)
+begins_release Start v k h P f = grind (arith, le_not_gt, upto_patch, empty_is, kind_of_release)
 begins_release End v k h P f = cc
-begins_release (Beside w s) v k h P f = cond_both (is_release w) (release_after w s ∷ []) (after_cut w s ∷ bare_release w ∷ []) (λ l. list_any P l ≡ true)
-    (λ r. or_left (P (release_after w s)) false (f (release_after w s) (by_side s h r)))
-    (λ r. or_right (P (after_cut w s)) _ (or_left (P (bare_release w)) false (f (bare_release w) (record {
+begins_release (Beside w s) v k h P f = grind (arith, by_side s h, by_pre, f (release_after w s), f (bare_release w))
+  where
+    by_pre : is_release w ≡ false → Begins (Beside w s) v (bare_release w)
+    by_pre r = record {
       past = past_less w (bare_release w) s (release_above w r);
       below = upto_by_both (bare_release w) v (triple_upto w v (past_order w v s h))
           (ap (λ l. is_gt (pre_cmp [] l)) (empty_is v.pre_release k));
       alike = kind_of_release (bare_release w) v refl k;
-    }))))
-  where
+    }
+
     by_side : (s : Bool) → is_past precedence (Beside w s) v ≡ true → is_release w ≡ true → Begins (Beside w s) v (release_after w s)
     by_side Near h r = near_begins w v h (kind_of_release (bare w) v r k)
     by_side Far h r = record {
@@ -155,7 +146,7 @@ begins_pre (Beside u s) w v k e m h P f =
     by_side Far h t r = record {
       past = past_less u (pre_after u) Far (next_pre_above u r);
       below = next_pre_least u v r (far_less u v h);
-      alike = record { release = next_pre u r ∙ sym k; triple = λ _. t };
+      alike = record { release = grind arith; triple = λ _. t };
     }
 
 -- ---- the span that lets a pre-release in names the triple
@@ -227,13 +218,10 @@ module _ (v x : VersionValue) (g : Cut VersionValue) (b : Begins g v x) where
   mark_past : (d : Cut VersionValue) → under v g d ≡ true → is_past precedence d v ≡ true → is_past precedence d x ≡ true
   mark_past d e p = is_past-down precedence_total d g x (under_past v g d e p) b.past
 
-  lower_past : (c : Bound VersionValue) → list_all (under v g) (beside c) ≡ true → is_past precedence (lower_cut c) v ≡ true
-      → is_past precedence (lower_cut c) x ≡ true
-  lower_past c e p = grind (arith, mark_past, first_so)
-
-  upper_past : (c : Bound VersionValue) → list_all (under v g) (beside c) ≡ true → is_past precedence (upper_cut c) v ≡ true
-      → is_past precedence (upper_cut c) x ≡ true
-  upper_past c e p = grind (arith, mark_past, first_so)
+  cuts_past : (c : Bound VersionValue) → list_all (under v g) (beside c) ≡ true
+      → (is_past precedence (lower_cut c) v ≡ true → is_past precedence (lower_cut c) x ≡ true)
+      × (is_past precedence (upper_cut c) v ≡ true → is_past precedence (upper_cut c) x ≡ true)
+  cuts_past c e = grind (arith, mark_past, first_so)
 
   admitted : (p q l p' q' l' : Bool) → (p ≡ true → p' ≡ true) → (q' ≡ true → q ≡ true) → l ≡ l' → (not ((p && not q) && l) || ((p' && not q') && l')) ≡ true
   admitted p q l p' q' l' f h e = grind arith
@@ -242,8 +230,8 @@ module _ (v x : VersionValue) (g : Cut VersionValue) (b : Begins g v x) where
       → accepts ss v false ≡ true → accepts ss x false ≡ true
   kept_accept ss top h = any_under (λ s. holds precedence s v && lets_in s v) (λ s. holds precedence s x && lets_in s x) ss h
       (all_weaker (λ s. list_all (under v g) (kept_marks s)) _ (λ s e.
-      admitted _ _ _ _ _ _ (lower_past s.lower (first_so _ _ (sym
-      (list_all-append (under v g) (beside s.lower) (below_named s.upper)) ∙ e))) (past_up v x b.below (upper_cut s.upper))
+      admitted _ _ _ _ _ _ (cuts_past s.lower (first_so _ _ (sym
+      (list_all-append (under v g) (beside s.lower) (below_named s.upper)) ∙ e))).0 (past_up v x b.below (upper_cut s.upper))
       (sym (lets_in_alike s x v b.alike))) ss (sym (all_flat (under v g) kept_marks ss) ∙ top))
 
   all_accepted : (kss : List (List (Span VersionValue))) → list_all (under v g) (flat_map list_marks kss) ≡ true
@@ -255,7 +243,7 @@ module _ (v x : VersionValue) (g : Cut VersionValue) (b : Begins g v x) where
       → accepts ss x false ≡ true → accepts ss v false ≡ true
   removed_accept ss top h = any_under (λ s. holds precedence s x && lets_in s x) (λ s. holds precedence s v && lets_in s v) ss h
       (all_weaker (λ s. list_all (under v g) (removed_marks s)) _ (λ s e.
-      admitted _ _ _ _ _ _ (past_up v x b.below (lower_cut s.lower)) (upper_past s.upper e) (lets_in_alike s x v b.alike)) ss
+      admitted _ _ _ _ _ _ (past_up v x b.below (lower_cut s.lower)) (cuts_past s.upper e).1 (lets_in_alike s x v b.alike)) ss
       (sym (all_flat (under v g) removed_marks ss) ∙ top))
 
 -- whatever is in the set, a candidate that is not above it is in the set too
@@ -270,10 +258,6 @@ candidate ks kss ls v h = any_flat found firsts (Start ∷ marks) ∙ greatest v
     marks : List (Cut VersionValue)
     marks = flat_map list_marks (ks ∷ kss) ++ flat_map removed_marks ls
 
-    among_too : (r a b q c d : Bool) → (r ≡ true → q ≡ true) → (a ≡ true → c ≡ true) → (d ≡ true → b ≡ true)
-        → (r && (a && not b)) ≡ true → (q && (c && not d)) ≡ true
-    among_too r a b q c d e f g h = grind arith
-
     at : (g : Cut VersionValue) → is_past precedence g v ≡ true → list_all (under v g) (Start ∷ marks) ≡ true → list_any found (firsts g) ≡ true
     at g past top =
         let tops = and_parts (list_all (under v g) (flat_map list_marks (ks ∷ kss))) _
@@ -282,11 +266,14 @@ candidate ks kss ls v h = any_flat found firsts (Start ∷ marks) ∙ greatest v
         let kept = and_parts (list_all (under v g) (list_marks ks)) _
         (sym (list_all-append (under v g) (list_marks ks) (flat_map list_marks kss)) ∙ tops.0) in
         let done : (x : VersionValue) → Begins g v x → found x ≡ true = λ x b.
-        and_from (among ks kss ls x) (is_le (precedence x v))
-        (among_too (all_accept kss v) (accepts ks v false) (accepts ls v false)
-        (all_accept kss x) (accepts ks x false) (accepts ls x false)
-        (all_accepted v x g b kss kept.1) (kept_accept v x g b ks kept.0) (removed_accept v x g b ls tops.1) h)
-        ((tells (precedence x v)).0 ∙ ap not b.below) in
+        grind (
+          arith,
+          all_accepted v x g b kss kept.1,
+          kept_accept v x g b ks kept.0,
+          removed_accept v x g b ls tops.1,
+          tells (precedence x v),
+          b.below,
+        ) in
         elim (cases_Bool (is_release v)) [
           | inl r ↦ begins_release g v r past found done
           | inr r ↦
@@ -339,25 +326,14 @@ module _ (set : VersionValue → Bool) where
   no_better copies None w x h k = cc
   no_better copies (Some b) w x h k = ap (λ q. if q && set x then Some (kept copies x) else Some b) (ap not (le_trans precedence_total b w x h k))
 
-  reached : (copies : Bool) (best : Option VersionValue) (w : VersionValue) (s : Bool) → is_reached best w ≡ true
+  pub reached : (copies : Bool) (best : Option VersionValue) (w : VersionValue) (s : Bool) → is_reached best w ≡ true
       → fold (better_kept copies set) best (firsts (Beside w s)) ≡ best
-  reached copies best w s h = grind (arith, no_better, by_release, by_pre, release_above)
-    where
-      by_release : (s : Bool) → is_le (precedence w (release_after w s)) ≡ true
-      by_release Near = ap is_le (tied_itself precedence_total w)
-      by_release Far = ap is_le (next_patch_above w)
-
-      by_pre : (s : Bool) → is_release w ≡ false → is_le (precedence w (after_cut w s)) ≡ true
-      by_pre Near k = ap is_le (tied_itself precedence_total w)
-      by_pre Far k = ap is_le (next_pre_above w k)
+  reached copies best w s h =
+      grind (arith, no_better, tied_itself precedence_total w, next_patch_above w, next_pre_above w, release_above w)
 
   pub reached_near : (copies : Bool) (best : Option VersionValue) (w : VersionValue) → is_reached best w ≡ true
       → fold (better_kept copies set) best (firsts (Beside w Near)) ≡ best
   reached_near copies best w h = reached copies best w Near h
-
-  pub reached_far : (copies : Bool) (best : Option VersionValue) (w : VersionValue) → is_reached best w ≡ true
-      → fold (better_kept copies set) best (firsts (Beside w Far)) ≡ best
-  reached_far copies best w h = reached copies best w Far h
 
   -- the least version that a list names, where each version of the set has one of the list that is not above it
   pub least_named : (xs : List VersionValue) → ((v : VersionValue) → set v ≡ true → list_any (λ x. set x && is_le (precedence x v)) xs ≡ true)
@@ -373,11 +349,10 @@ pub least_wanted : (kss : List (List (Span VersionValue))) (ls : List (Span Vers
     → IsLeastOf (wanted kss ls) (least_of (wanted kss ls) (candidates kss ls))
 least_wanted [] ls n = absurd (omega arith)
 least_wanted (ks ∷ kss) ls n = subst (λ (set : VersionValue → Bool). IsLeastOf set (least_of set (candidates (ks ∷ kss) ls)))
-    (λ i v. same (all_accept kss v) (accepts ks v false) (accepts ls v false) i)
-    (least_named (among ks kss ls) (candidates (ks ∷ kss) ls) (candidate ks kss ls))
+    (λ i v. same v i) (least_named (among ks kss ls) (candidates (ks ∷ kss) ls) (candidate ks kss ls))
   where
-    same : (q a b : Bool) → (q && (a && not b)) ≡ ((a && q) && not b)
-    same q a b = grind arith
+    same : (v : VersionValue) → among ks kss ls v ≡ wanted (ks ∷ kss) ls v
+    same v = grind arith
 
 -- of no lists it is the least version, and of more the least that all accept and nothing rejects
 pub least_of_none : (lists : List (List (Span VersionValue))) (v : VersionValue) → length lists < 1
@@ -475,10 +450,7 @@ past_lower (After w) = grind (arith, nat_tests, common_steps, past_less, above_p
 least_past : (b : Bound VersionValue) (v : VersionValue) → is_past precedence (lower_cut b) v ≡ true → is_gt (precedence (first_past b) v) ≡ false
 least_past Unbounded v h = le_not_gt _ (first_of_all v)
 least_past (Before w) v h = past_order w v Near h
-least_past (After w) v h = by_kind (is_release w) refl
-  where
-    by_kind : (r : Bool) → is_release w ≡ r → is_gt (precedence (if r then first_pre (patch_after w) else pre_after w) v) ≡ false
-    by_kind r k = grind (arith, le_not_gt, least_after_release, empty_is, far_less, next_pre_least)
+least_past (After w) v h = grind (arith, le_not_gt, least_after_release w v, empty_is w.pre_release, far_less, next_pre_least)
 
 -- the first version past the lower cut of a span that holds v is held as well
 least_in : (s : Span VersionValue) (v : VersionValue) → holds precedence s v ≡ true → is_gt (precedence (first_past s.lower) v) ≡ false
@@ -511,12 +483,9 @@ held_candidate set (s ∷ ss) v f h = elim (or_cases (holds precedence s v && tr
 pub least_held : (ss : List (Span VersionValue)) → IsLeastOf (λ v. accepts ss v true) (least_of (λ v. accepts ss v true) (firsts_past ss))
 least_held ss = grind (arith, nat_tests, common_steps, least_named, held_candidate)
 
-past_bare : (b : Bound VersionValue) → (first_past b).build ≡ []
-past_bare b = grind arith
-
 bare_firsts : (ss : List (Span VersionValue)) → All (λ v. v.build ≡ []) (firsts_past ss)
 bare_firsts [] = All-nil (λ v. v.build ≡ [])
-bare_firsts (s ∷ ss) = grind (arith, All-cons, past_bare, bare_firsts ss)
+bare_firsts (s ∷ ss) = All-cons IsBare (first_past s.lower) (firsts_past ss) (grind arith) (bare_firsts ss)
 
 pub held_bare : (ss : List (Span VersionValue)) (r : Option VersionValue) → r ≡ least_of (λ v. accepts ss v true) (firsts_past ss)
     → IfSome r (λ v. v.build ≡ [])

@@ -1,9 +1,8 @@
 -- A version that a range does not hold lies outside it exactly where each cut says so.
-use Rattle.nodejs_semver.proofs.Common.{Bool, Bound, Higher, IsRange, List, Lower, Span, VersionValue, [], ap, arith, false, holds}
-use Rattle.nodejs_semver.proofs.Common.{is_interval, is_past, is_past-down, lies_above, lies_below, list_all, list_any, lower_cut, not}
+use Rattle.nodejs_semver.proofs.{Algebra.Clauses.all_intervals, Common.{Bool, Bound, Higher, IsRange, List, Lower, Span, VersionValue, [], ap, arith}}
+use Rattle.nodejs_semver.proofs.Common.{false, holds, is_interval, is_past, is_past-down, lies_above, lies_below, list_all, list_any, lower_cut, not}
 use Rattle.nodejs_semver.proofs.Common.{one_way, precedence, precedence_total, refl, true, upper_cut, ℕ, ◌&&◌, ◌+◌, ◌||◌, ◌∙◌, ◌∷◌, ◌≡◌}
-use Rattle.nodejs_semver.specs.{Ranges.Outside.{is_bounded, is_outside}, declared.range.outside.OutsideDirection.{OutsideDirection}}
-use Rattle.nodejs_semver.proofs.Algebra.Clauses.{all_intervals}
+use Rattle.nodejs_semver.specs.{Ranges.Outside.{is_bounded, is_outside}, declared.range.outside.OutsideDirection.OutsideDirection}
 
 -- what lies past the upper cut of an interval lies past its lower cut
 both_past : (s : Span VersionValue) (v : VersionValue) → is_interval precedence s ≡ true

@@ -1,20 +1,17 @@
 -- Spans of versions of any kind, read one by one as the spans of their values.
-use Rattle.nodejs_semver.proofs.Common.{All, All-get_or, All-tail, All-weaker, AllPass-from_list_all, Any, BeginsAfterPre, Bool, Bound}
-use Rattle.nodejs_semver.proofs.Common.{IfNone, IfSome, IsAfterPre, IsLeastSoFar, IsRaisable, IsRange, List, MAX_SAFE_INTEGER, None, Option, Raisable}
+use Rattle.nodejs_semver.proofs.Common.{All, All-get_or, All-tail, All-weaker, AllPass-from_list_all, Any, BeginsAfterPre, Bool, Bound, Err, IfNone}
+use Rattle.nodejs_semver.proofs.Common.{IfSome, IsAfterPre, IsLeastSoFar, IsRaisable, IsRange, List, MAX_SAFE_INTEGER, None, Option, Raisable, Result}
 use Rattle.nodejs_semver.proofs.Common.{Some, Span, VersionValue, [], accepts, all_accept, and-true, and_parts, ap, arith, below_named, beside}
-use Rattle.nodejs_semver.proofs.Common.{beyond, bound_of, candidates, common_steps, cond_both, false, false≢true, find, find-append, first_so}
-use Rattle.nodejs_semver.proofs.Common.{firsts, flat_map, flat_map-append, fold, fold-append, get_or, get_or-map, holds, inl, inr, is_le, is_lt}
-use Rattle.nodejs_semver.proofs.Common.{is_range_span, least_build, length, length-map, lets_in, list_any, list_any-append, list_marks, map}
-use Rattle.nodejs_semver.proofs.Common.{map-append, nat_tests, not, not_if, option_map, or-false, or_cases, precedence, precedence_total, refl}
-use Rattle.nodejs_semver.proofs.Common.{removed_marks, span_of, spans_of, subst, sym, take, take_next, tells, tied_itself, true, ℕ, ◌&&◌, ◌++◌, ◌+◌}
-use Rattle.nodejs_semver.{proofs.{Common.{◌-◌, ◌<◌, ◌^◌, ◌||◌, ◌∙◌, ◌∷◌, ◌≡◌, ◌⊎◌}, Values.map-further}, specs.Internal.Candidates.{EndsAfterPre, Finds}}
-use Rattle.nodejs_semver.specs.Internal.Candidates.{IsLeastBuilt, MayAllocate, StartsWith, first_past, has_build, lesser, zero}
-use Rattle.nodejs_semver.proofs.Common.{Err, Result, build_by, option_and_then}
-use Rattle.std.specs.Result.{IsOkAnd, MatchResult, OnErr}
-use Rattle.nodejs_semver.specs.Ranges.Least.{begins_with, names_identifiers}
-use Rattle.semver_core.specs.{Cuts.{has_bound, passes}, Lists.is_empty, Values.Versions.{HasIdentifiers, is_release}}
-use Rattle.std.proofs.{Math.Bool.or-true, lemmas.List.Folds.list_any_at}
-use Rattle.{semver_core.proofs.Gate.{le_of_lt, le_trans, lt_is, lt_le, past_order}, std.specs.Option.option_or}
+use Rattle.nodejs_semver.proofs.Common.{beyond, bound_of, build_by, candidates, common_steps, cond_both, false, false≢true, find, find-append}
+use Rattle.nodejs_semver.proofs.Common.{first_so, firsts, flat_map, flat_map-append, fold, fold-append, get_or, get_or-map, holds, inl, inr, is_le}
+use Rattle.nodejs_semver.proofs.Common.{is_lt, is_range_span, least_build, length, length-map, lets_in, list_any, list_any-append, list_marks, map}
+use Rattle.nodejs_semver.proofs.Common.{map-append, nat_tests, not, not_if, option_and_then, option_map, or-false, or_cases, precedence}
+use Rattle.nodejs_semver.proofs.Common.{precedence_total, refl, removed_marks, span_of, spans_of, sym, take, take_next, tells, tied_itself, true, ℕ}
+use Rattle.nodejs_semver.proofs.{Common.{◌&&◌, ◌++◌, ◌+◌, ◌-◌, ◌<◌, ◌^◌, ◌||◌, ◌∙◌, ◌∷◌, ◌≡◌, ◌⊎◌}, Values.map-further}
+use Rattle.nodejs_semver.specs.Internal.Candidates.{EndsAfterPre, Finds, IsLeastBuilt, MayAllocate, StartsWith, first_past, has_build, lesser, zero}
+use Rattle.{nodejs_semver.specs.Ranges.Least.{begins_with, names_identifiers}, semver_core.proofs.Gate.{le_of_lt, le_trans, lt_is, lt_le, past_order}}
+use Rattle.{semver_core.specs.{Cuts.{has_bound, passes}, Lists.is_empty, Values.Versions.{HasIdentifiers, is_release}}, std.proofs.Math.Bool.or-true}
+use Rattle.std.{proofs.lemmas.List.Folds.list_any_at, specs.{Option.option_or, Result.{IsOkAnd, MatchResult, OnErr}}}
 
 -- the patch of a bound of a range can be raised
 module _ (limit : ℕ) (far : limit < 2 ^ 64 - 1) where
@@ -53,21 +50,17 @@ find-map : {A B : Type 0} (f : A → B) (p : B → Bool) (xs : List A) → find 
 find-map f p [] = refl
 find-map f p (x ∷ xs) = grind (arith, find-map f p xs)
 
-map-twice : {A B C : Type 0} (f : B → C) (g : A → B) (r : Option A) → option_map (λ a. f (g a)) r ≡ option_map f (option_map g r)
-map-twice f g r = grind arith
-
 pub found_value : {A B C : Type 0} (f : B → C) (g : A → B) (p : C → Bool) (xs : List B) (r : Option A)
     → option_map g r ≡ find (λ x. p (f x)) xs → option_map (λ a. f (g a)) r ≡ find p (map f xs)
-found_value f g p xs r e = map-twice f g r ∙ ap (option_map f) e ∙ sym (find-map f p xs)
+found_value f g p xs r e = grind (arith, find-map f p xs)
 
 find_all : {X : Type 0} (P : X → Type 0) (p : X → Bool) (xs : List X) → All P xs → IfSome (find p xs) P
 find_all P p [] h = tt
-find_all P p (x ∷ xs) h = cond_both (p x) (Some x) (find p xs) (λ o. IfSome o P) (λ _. h 0 x (omega arith)) (λ _. find_all P p xs (All-tail P x xs h))
+find_all P p (x ∷ xs) h = grind (arith, h 0 x, find_all P p xs (All-tail P x xs h))
 
 pub found_raisable : {A : Type 0} (g : A → Span VersionValue) (p : Span VersionValue → Bool) (ss : List (Span VersionValue)) (r : Option A)
     → option_map g r ≡ find p ss → All IsRaisable ss → IfSome r (λ a. Raisable (g a).lower)
-found_raisable g p ss None e h = tt
-found_raisable g p ss (Some a) e h = (subst (λ o. IfSome o IsRaisable) (sym e) (find_all IsRaisable p ss h)).0
+found_raisable g p ss r e h = grind (arith, find_all IsRaisable p ss h)
 
 -- ---- one further span in the search for a least version
 
@@ -203,16 +196,8 @@ held_allocates ks h = grind arith
 abbrev named : VersionValue → Bool
 named w = not (is_release w && is_empty w.build)
 
-passes-weaker : (test other : VersionValue → Bool) (b : Bound VersionValue) → ((w : VersionValue) → test w ≡ true → other w ≡ true)
-    → passes test b ≡ true → passes other b ≡ true
-passes-weaker test other b weaker h = grind (arith, weaker)
-
-has_bound-weaker : (test other : VersionValue → Bool) (s : Span VersionValue) → ((w : VersionValue) → test w ≡ true → other w ≡ true)
-    → has_bound test s ≡ true → has_bound other s ≡ true
-has_bound-weaker test other s weaker h = grind (arith, passes-weaker test other)
-
 let_in_names : (s : Span VersionValue) (v : VersionValue) → lets_in s v ≡ true → is_release v ≡ false → has_bound named s ≡ true
-let_in_names s v h k = has_bound-weaker _ named s (λ w e. grind (arith, e)) (rw k at h)
+let_in_names s v h k = grind arith
 
 pub accepted_names : (ss : List (Span VersionValue)) (v : VersionValue) → accepts ss v false ≡ true → is_release v ≡ false
     → names_identifiers ss ≡ true
@@ -234,16 +219,13 @@ ends_names ss (i, s, within, at, h) =
     list_any_at (has_bound named) ss i s within (grind (arith, at, after_names s.upper h))
 
 built_names : (b : Bound VersionValue) → has_build b ≡ true → passes named b ≡ true
-built_names b h = passes-weaker (λ w. not (is_empty w.build)) named b (λ w e. grind (arith, e)) h
+built_names b h = grind arith
 
 -- the version of the first span that passes a test, where it has build metadata
 pub first_names : (p : Span VersionValue → Bool) (ss : List (Span VersionValue)) (s : Span VersionValue) → find p ss ≡ Some s
     → has_build s.lower ≡ true → names_identifiers ss ≡ true
 first_names p [] s e h = cc
 first_names p (x ∷ ss) s e h = grind (arith, built_names s.lower h, first_names p ss s)
-
-begins_built : (b : Bound VersionValue) (x : VersionValue) → begins_with b ≡ Some x → 0 < length x.build → has_build b ≡ true
-begins_built b x e h = grind arith
 
 pub build_names : (ss : List (Span VersionValue)) (v : VersionValue) → 0 < length (least_build ss v) → names_identifiers ss ≡ true
 build_names ss v h = of_first (find first ss) refl h
@@ -255,7 +237,7 @@ build_names ss v h = of_first (find first ss) refl h
         → 0 < length (build_by (option_and_then (λ s. begins_with s.lower) r) v)
         → names_identifiers ss ≡ true
     of_first None e h = absurd (omega (arith, h))
-    of_first (Some s) e h = grind (arith, first_names first ss s e, begins_built s.lower)
+    of_first (Some s) e h = grind (arith, first_names first ss s e)
 
 -- the search for a least version
 pub one_names : (ks ls : List (Span VersionValue)) → MayAllocate true (ks ∷ []) ls

@@ -1,14 +1,14 @@
 -- Questions about ranges: parts of ranges, unions, and the ranges of some versions.
 use Rattle.nodejs_semver.proofs.Common.{All, All-weaker, AreTaking, Bool, Bound, Contains, IfOk, IfOk-weaker, IsLeastOf, IsRange, IsTrue, List, None}
 use Rattle.nodejs_semver.proofs.Common.{Option, Ordering, Result, Some, Span, VersionValue, [], accepts, and_parts, ap, append_assoc, ap₂, arith}
-use Rattle.nodejs_semver.proofs.Common.{common_steps, false, filter, get_or, gt_lt, has_bound, holds, if_any, if◌then◌else◌, is_empty, is_past-down}
-use Rattle.nodejs_semver.proofs.Common.{is_range_span, is_release, length, length-append, lets_in, list_all, list_all-append, list_any}
+use Rattle.nodejs_semver.proofs.Common.{common_steps, drop, false, filter, get_or, gt_lt, has_bound, holds, if_any, if◌then◌else◌, is_empty}
+use Rattle.nodejs_semver.proofs.Common.{is_past-down, is_range_span, is_release, length, length-append, lets_in, list_all, list_all-append, list_any}
 use Rattle.nodejs_semver.proofs.Common.{list_any-append, list_any-map, map, map-append, names, nat_tests, not, not-true, or-false, or_cases, or_left}
-use Rattle.nodejs_semver.proofs.Common.{or_parts, or_right, passes, precedence, precedence_total, refl, same_triple, span_of, spans_of, suc, sym}
-use Rattle.nodejs_semver.proofs.Common.{take, tells, true, zero, ℕ, ◌&&◌, ◌++◌, ◌+◌, ◌<◌, ◌||◌, ◌↔◌, ◌∙◌, ◌∷◌, ◌≡◌, ◌≤◌, ◌⊎◌}
+use Rattle.nodejs_semver.proofs.Common.{or_parts, or_right, passes, precedence, precedence_total, refl, same_triple, span_of, spans_of, sym, take}
+use Rattle.nodejs_semver.proofs.Common.{take-append-drop, tells, true, ℕ, ◌&&◌, ◌++◌, ◌+◌, ◌<◌, ◌||◌, ◌↔◌, ◌∙◌, ◌∷◌, ◌≡◌, ◌≤◌, ◌⊎◌}
 use Rattle.nodejs_semver.specs.{Internal.Questions.{admits, is_said, is_used}, Ranges.{Simple.simplified, Subsets.{AcceptSame, IsSubset}}}
 use Rattle.{nodejs_semver.specs.Ranges.Unions.{says_all, union}, semver_core.specs.Cuts.covers, std.proofs.lemmas.List.Elements.All-contains_itself}
-use Rattle.std.{proofs.lemmas.List.{Filters.length-filter_both, Folds.list_any_at}, specs.Prelude.is_none}
+use Rattle.std.{proofs.lemmas.List.{Elements.filter-append, Filters.length-filter_both, Folds.list_any_at}, specs.Prelude.is_none}
 
 -- ---- parts of ranges
 
@@ -88,10 +88,8 @@ goes_behind p xs i x front old h at k e = grind (arith, nat_tests, common_steps)
 -- what stays of a list, from an element on that stays
 filter-parts : {A : Type 0} (p : A → Bool) (xs : List A) (i : ℕ) (x : A) → i < length xs → x ≡ get_or xs i x → p x ≡ true
     → (rest : List A) × (filter p xs ≡ filter p (take i xs) ++ x ∷ rest)
-filter-parts p [] i x h at k = absurd (omega (arith, h))
-filter-parts p (y ∷ ys) zero x h at k = (filter p ys, grind arith)
-filter-parts {A = A} p (y ∷ ys) (suc i) x h at k =
-    grind (arith, nat_tests, common_steps, filter-parts p ys i x)
+filter-parts p xs i x h at k =
+    (filter p (drop (i + 1) xs), grind (arith, nat_tests, common_steps, filter-append p (take (i + 1) xs) (drop (i + 1) xs), take-append-drop (i + 1) xs))
 
 -- an element that stays takes memory by itself, or is not the first: so does the whole list that is made
 pub taken_at : {V : Type 0} (takes : V → Bool) (p : Span V → Bool) (xs front now : List (Span V)) (i : ℕ) (x : Span V)
@@ -135,29 +133,23 @@ more-taking takes xs ys h = grind (arith, nat_tests, common_steps)
 abbrev used_of : List VersionValue → List (Span VersionValue) → List (Span VersionValue)
 used_of vs ss = filter (λ s. list_any (λ v. admits s v) vs) ss
 
-one_span : (s : Span VersionValue) (v : VersionValue) → accepts (s ∷ []) v false ≡ admits s v
-one_span s v = or-false (admits s v)
-
 simplified-is : (vs : List VersionValue) (ss : List (Span VersionValue)) → simplified vs ss ≡ (if is_empty (used_of vs ss) then ss else used_of vs ss)
-simplified-is vs ss = λ i. let used = filter (λ s. list_any (λ v. one_span s v i) vs) ss in if is_empty used then ss else used
+simplified-is vs ss = simp or-false
 
 used_same : (vs : List VersionValue) (ss : List (Span VersionValue)) → All (λ v. accepts (used_of vs ss) v false ≡ accepts ss v false) vs
 used_same vs ss =
     All-weaker (Contains vs) _ (λ v at. filtered _ (λ s. admits s v) false (λ s n k. sym n
     ∙ list_any_at (λ w. admits s w) vs at.0 v at.1 (ap (λ w. admits s w) at.2 ∙ k)) ss) vs (All-contains_itself vs)
 
--- a list that is not empty, and an empty one
+-- a list that is not empty
 some_list : {A : Type 0} (r list all : List A) → Some r ≡ if_any list → (r ≡ list) × ((if is_empty list then all else list) ≡ r)
 some_list r list all e = grind arith
-
-no_list : {A : Type 0} (list all : List A) → None ≡ if_any list → (if is_empty list then all else list) ≡ all
-no_list list all e = grind arith
 
 module _ {V W : Type 0} (value : V → VersionValue) (other : W → VersionValue) (ws : List W) (xs used : List (Span V))
     (ss : List (Span VersionValue)) (p : spans_of value xs ≡ ss) (e : used ≡ filter (is_used value other ws) xs) where
   made : spans_of value used ≡ used_of (map other ws) ss
-  made = ap (spans_of value) e ∙ (map-filter (span_of value) _ (λ s. list_any (λ v. admits s v) (map other ws))
-      (λ x. sym (list_any-map (λ v. admits (span_of value x) v) other ws)) xs ∙ ap (used_of (map other ws)) p)
+  made = rw (e, ← p) (map-filter (span_of value) _ (λ s. list_any (λ v. admits s v) (map other ws))
+      (λ x. sym (list_any-map (λ v. admits (span_of value x) v) other ws)) xs)
 
   simplified-made : simplified (map other ws) ss ≡ (if is_empty (spans_of value used) then ss else spans_of value used)
   simplified-made = grind (arith, simplified-is, made)
@@ -176,7 +168,7 @@ module _ {V W : Type 0} (value : V → VersionValue) (other : W → VersionValue
   some-shorter r k = rw ((some_list r _ ss k).0, made) (omega (arith, length-filter_both _ (λ s. not (list_any (λ v. admits s v) (map other ws))) (λ s. refl) ss))
 
   pub none-list : None ≡ if_any (spans_of value used) → ss ≡ simplified (map other ws) ss
-  none-list k = grind (arith, simplified-made, no_list)
+  none-list k = grind (arith, simplified-made)
 
   -- what takes memory is not empty
   pub used-taking : (takes : V → Bool) → AreTaking takes used → spans_of value used ≡ simplified (map other ws) ss
@@ -189,6 +181,3 @@ module _ {V W : Type 0} (value : V → VersionValue) (other : W → VersionValue
 -- a copy answers the same about every version
 pub copy-same : (r ss : List (Span VersionValue)) (vs : List VersionValue) → r ≡ ss → All (λ v. accepts r v false ≡ accepts ss v false) vs
 copy-same r ss vs e = grind (arith, All-contains_itself, All-weaker)
-
-pub copy-shorter : (r ss : List (Span VersionValue)) → r ≡ ss → length r ≤ length ss
-copy-shorter r ss e = omega (arith, ap length e)

@@ -1,25 +1,20 @@
 -- The partial that is read at the front of a text is the longest one that is written there.
-use Rattle.nodejs_semver.proofs.Common.{AreComponents, Front, Id, IsBuild, IsCharBoundary-after_ascii, IsIdentifiers, IsNumber, IsPreRelease}
-use Rattle.nodejs_semver.proofs.Common.{IsUtf8, IsUtf8-drop, List, None, Option, Partial, Sign, Some, Word, [], all_weaker, ap}
-use Rattle.nodejs_semver.proofs.Common.{Bool, ◌&&◌, append-nil, append_assoc, arith, begins, bind_some, cases_Bool, common_steps, not}
-use Rattle.nodejs_semver.proofs.Common.{component_front, cond_some, drop, drop_at, drop_spaces, drop_spaces-blank, drop_spaces-none, encode_utf8_all}
-use Rattle.nodejs_semver.proofs.Common.{eqb-true, false, from_boundary, inl, inr, is_ascii_digit, is_boundary, is_whitespace, length}
-use Rattle.nodejs_semver.proofs.Common.{length-append, list_all, nat_lt, nat_tests, partial_front, pieces, refl, same_Some, sign_at}
-use Rattle.nodejs_semver.proofs.Common.{space_len, suc, sym, take_at, tilde_sign, true, upper_of, word_at, words, words_within}
-use Rattle.nodejs_semver.{proofs.Common.{zero, ℕ, ◌++◌, ◌<◌, ◌==◌, ◌↔◌, ◌∙◌, ◌∷◌, ◌≡◌, ◌≤◌, ◌⊎◌}, specs.Internal.Fronts.{minor_front, patch_front}}
-use Rattle.nodejs_semver.specs.{Internal.Words.{behind_sign, unsigned, word_behind}, Text.LongestText.{BeginsPartial, IsLongestPartial}}
-use Rattle.{nodejs_semver.specs.Text.PartialText.{IsComponent, IsPartial, number, one, three, two, wildcard}, semver_core.proofs.Reading.Bytes.Quiet}
-use Rattle.semver_core.proofs.Reading.Bytes.{Stop, all-end, all-join, begins-on, begins-some, begins_component}
-use Rattle.semver_core.proofs.Reading.Bytes.{is_component_byte, is_solid, quiet-append, quiet-before, quiet-behind, quiet-both, quiet-dotted}
-use Rattle.semver_core.proofs.Reading.{Bytes.{quiet-front, quiet-further, quiet-last, stop-nil}}
-use Rattle.semver_core.proofs.Reading.{Numbers.number-found}
-use Rattle.semver_core.proofs.{Reading.Numbers.{number-read, number_first, wildcard-no_digit}, Text.Pieces.{first_char, runs_tail}}
-use Rattle.semver_core.proofs.Text.{Pieces.{tail_onto, tail_runs}, SpaceLaw.space_len-white}
-use Rattle.semver_core.specs.Internal.{Boundaries.after_some_space, Fronts.{after_byte, begins_wildcard, build_front, dotted_front}}
-use Rattle.semver_core.specs.{Internal.Fronts.{drop_v, number_front, pre_release_front}}
-use Rattle.semver_core.proofs.Reading.Boundaries.{boundary-le, front-dark, no-boundary, spaced, spaces-gone, spaces-le}
-use Rattle.semver_core.proofs.Reading.Qualifiers.{build-read, build_front-le}
-use Rattle.semver_core.proofs.Reading.Qualifiers.{pre-read, pre_release_front-le, qualifier-passed}
+use Rattle.nodejs_semver.proofs.Common.{AreComponents, Bool, Front, Id, IsBuild, IsIdentifiers, IsNumber, IsPreRelease, IsUtf8, List, None, Option}
+use Rattle.nodejs_semver.proofs.Common.{Partial, Sign, Some, Word, [], all_weaker, ap, append-nil, append_assoc, arith, begins, bind_some, cases_Bool}
+use Rattle.nodejs_semver.proofs.Common.{common_steps, component_front, cond_some, drop, drop_at, drop_spaces, drop_spaces-blank, drop_spaces-none}
+use Rattle.nodejs_semver.proofs.Common.{encode_utf8_all, eqb-true, false, from_boundary, inl, inr, is_ascii_digit, is_boundary, is_whitespace, length}
+use Rattle.nodejs_semver.proofs.Common.{length-append, list_all, nat_lt, nat_tests, not, partial_front, pieces, refl, same_Some, sign_at, space_len}
+use Rattle.nodejs_semver.proofs.Common.{suc, sym, take_at, tilde_sign, true, upper_of, word_at, words, words_within, zero, ℕ, ◌&&◌, ◌++◌, ◌<◌, ◌==◌}
+use Rattle.nodejs_semver.{proofs.Common.{◌↔◌, ◌∙◌, ◌∷◌, ◌≡◌, ◌≤◌, ◌⊎◌}, specs.Internal.{Fronts.{minor_front, patch_front}, Words.behind_sign}}
+use Rattle.nodejs_semver.specs.{Internal.Words.{unsigned, word_behind}, Text.{LongestText.{BeginsPartial, IsLongestPartial}, PartialText.IsComponent}}
+use Rattle.{nodejs_semver.specs.Text.PartialText.{IsPartial, number, one, three, two, wildcard}, semver_core.proofs.Reading.Boundaries.boundary-le}
+use Rattle.semver_core.proofs.Reading.{Boundaries.{front-dark, no-boundary, spaced, spaces-gone, spaces-le, tail-utf8}, Bytes.{Quiet, Stop, all-end}}
+use Rattle.semver_core.proofs.Reading.Bytes.{all-join, begins-on, begins-some, begins_component, is_component_byte, is_solid, quiet-append}
+use Rattle.semver_core.proofs.Reading.Bytes.{quiet-before, quiet-behind, quiet-both, quiet-dotted, quiet-front, quiet-further, quiet-last, stop-nil}
+use Rattle.semver_core.proofs.Reading.{Numbers.{number-found, number-read, number_first, wildcard-no_digit}, Qualifiers.{build-read, build_front-le}}
+use Rattle.semver_core.proofs.{Reading.Qualifiers.{pre-read, pre_release_front-le, qualifier-passed}, Text.Pieces.{first_char, runs_tail, tail_onto}}
+use Rattle.semver_core.{proofs.Text.{Pieces.tail_runs, SpaceLaw.space_len-white}, specs.Internal.{Boundaries.after_some_space, Fronts.after_byte}}
+use Rattle.semver_core.specs.Internal.Fronts.{begins_wildcard, build_front, dotted_front, drop_v, number_front, pre_release_front}
 
 -- ---- one component
 
@@ -250,9 +245,7 @@ sign_at-le text = grind (arith, spaces-le, sign-le)
 form-shorter : (limit : ℕ) (text : List ℕ) (x : Word) (r : List ℕ) → behind_sign limit (sign_at text) ≡ Some (x, r)
     → length r < length text
 form-shorter limit text x r h =
-    let s = sign_at text in
-    let p = bind_some (partial_front limit s.1) (λ p. word_behind limit s.0 p.0 p.1) (x, r) h in
-    omega (arith, sign_at-le text, partial-shorter limit s.1 p.0 p.1, word_behind-le limit s.0 p.0.0 p.0.1 x r p.2)
+    grind (arith, bind_some, sign_at-le text, partial-shorter, word_behind-le)
 
 -- a word that begins with no whitespace takes a byte or more
 pub word-shorter : (limit b : ℕ) (rest : List ℕ) → space_len (b ∷ rest) ≡ 0 → length (word_at limit (b ∷ rest)).1 < length (b ∷ rest)
@@ -287,12 +280,9 @@ front-kept text h = grind (arith, drop_spaces-none, front-dark)
 -- ---- the mark and the whitespace
 
 -- a text that begins with whitespace or a component has no mark
-v-dark : (rest : List ℕ) → space_len (118 ∷ rest) ≡ 0
-unfolding space_len
-v-dark rest = refl
-
 unmarked-blank : (text : List ℕ) → 0 < space_len text → drop_v text ≡ text
-unmarked-blank text h = grind (arith, v-dark)
+unfolding space_len
+unmarked-blank text h = grind (arith, nat_tests)
 
 unmarked : (cs text : List ℕ) → list_all is_whitespace cs ≡ true → begins_component text ≡ true → drop_v (encode_utf8_all cs ++ text) ≡ encode_utf8_all cs ++ text
 unmarked [] [] each h = refl
@@ -310,8 +300,8 @@ marked : (text : List ℕ) → IsUtf8 text → Marked text (drop_v text)
 marked [] u = record { mark = []; is = inl refl; divided = refl; behind = u }
 marked (b ∷ rest) u = elim (cases_Bool (b == 118)) [
   | inl v ↦
-      let behind = IsUtf8-drop (b ∷ rest) 1 u (IsCharBoundary-after_ascii (b ∷ rest) 0 u (omega arith) (omega (arith, eqb-true b 118 v))) in
-      rw (v, eqb-true b 118 v) (record { mark = 118 ∷ []; is = inr refl; divided = refl; behind = behind })
+      let is = eqb-true b 118 v in
+      rw (v, is) (record { mark = 118 ∷ []; is = inr refl; divided = refl; behind = tail-utf8 118 rest (omega arith) (rw is at u) })
   | inr other ↦ rw other (record { mark = []; is = inl refl; divided = refl; behind = u })
 ]
 

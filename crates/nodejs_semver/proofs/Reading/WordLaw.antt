@@ -1,22 +1,17 @@
 -- The word that is computed is the one that is written, and the one that its sign tells.
-use Rattle.nodejs_semver.proofs.Common.{Bool, Comparator, IfSome, IsSign, IsUtf8}
-use Rattle.nodejs_semver.proofs.Common.{List, None, Option, Partial, Sign, Some, Word, [], ap, arith, bind_some}
-use Rattle.nodejs_semver.proofs.Common.{cases_Bool, component_front, cond_some, drop_spaces}
-use Rattle.nodejs_semver.proofs.Common.{drop_spaces-none, eqb-true, false, from_boundary, hyphen, inl}
-use Rattle.nodejs_semver.proofs.Common.{inr, is_boundary, length, lt-ltb, nat_tests, partial_front, plain}
-use Rattle.nodejs_semver.proofs.Common.{refl, same_Some, sign_at, space_len, subst, sym, tilde_sign, true, upper_of, word_at}
-use Rattle.nodejs_semver.proofs.{Common.{ℕ, ◌++◌, ◌==◌, ◌||◌, ◌↔◌, ◌∙◌, ◌∷◌, ◌≡◌, ◌⊎◌}, Reading.PartialLaw.longest_are}
-use Rattle.nodejs_semver.specs.Internal.Words.{at_boundary, behind_sign, careted, comparator_at, compared, comparing, or_equal, or_malformed}
-use Rattle.nodejs_semver.specs.{Internal.Words.{signed_word, tilded, unsigned, upper_behind, word_behind}, Text.LongestText.IsLongestPartial}
-use Rattle.nodejs_semver.specs.Text.WordText.{IsBehind, IsForm, IsHyphen, IsWhole, IsWordAt, above_sign, at_least_sign, at_most_sign, below_sign}
-use Rattle.nodejs_semver.specs.Text.WordText.{caret_form, compare_form, equal_sign, formed, hyphen_form, no_form, plain_form, tilde_form}
-use Rattle.{nodejs_semver.specs.Text.WordText.tilde_greater_form, semver_core.proofs.Reading.{Boundaries.{spaces-gone}, Bytes.solid-dark}}
-use Rattle.semver_core.proofs.{Reading.Steps.option-cases}
+use Rattle.nodejs_semver.proofs.Common.{Bool, Comparator, IfSome, IsSign, IsUtf8, List, None, Option, Partial, Sign, Some, Word, [], ap, arith}
+use Rattle.nodejs_semver.proofs.Common.{bind_some, cases_Bool, component_front, cond_some, drop_spaces, drop_spaces-none, eqb-true, false}
+use Rattle.nodejs_semver.proofs.Common.{from_boundary, hyphen, inl, inr, is_boundary, length, lt-ltb, nat_tests, partial_front, plain, refl}
+use Rattle.nodejs_semver.proofs.Common.{same_Some, sign_at, space_len, subst, sym, tilde_sign, true, upper_of, word_at, ℕ, ◌++◌, ◌==◌, ◌||◌, ◌↔◌, ◌∙◌}
+use Rattle.nodejs_semver.{proofs.{Common.{◌∷◌, ◌≡◌, ◌⊎◌}, Reading.PartialLaw.longest_are}, specs.Internal.Words.{at_boundary, behind_sign, careted}}
+use Rattle.nodejs_semver.specs.Internal.Words.{comparator_at, compared, comparing, or_equal, or_malformed, signed_word, tilded, unsigned}
+use Rattle.nodejs_semver.specs.{Internal.Words.{upper_behind, word_behind}, Text.{LongestText.IsLongestPartial, WordText.{IsBehind, IsForm}}}
+use Rattle.nodejs_semver.specs.Text.WordText.{IsHyphen, IsWhole, IsWordAt, above_sign, at_least_sign, at_most_sign, below_sign, caret_form}
+use Rattle.nodejs_semver.specs.Text.WordText.{compare_form, equal_sign, formed, hyphen_form, no_form, plain_form, tilde_form, tilde_greater_form}
+use Rattle.semver_core.proofs.Reading.Boundaries.{blank-len, boundary-of, boundary-utf8, byte-is, first-is, first-of, skips-is, skips-of, skips-utf8}
+use Rattle.semver_core.proofs.Reading.{Boundaries.{some_space-is, spaces-gone, suffix-boundary, tail-utf8}, Bytes.solid-dark, Steps.option-cases}
 use Rattle.semver_core.specs.{Internal.{Boundaries.after_some_space, Fronts.{after_byte, number_of}, Reading.◌>>?◌}, Text.Boundaries.IsBoundary}
-use Rattle.{semver_core.specs.Text.{Boundaries.{SkipsBlank}}}
-use Rattle.semver_core.proofs.Reading.Boundaries.{blank-len, boundary-of, boundary-utf8, byte-is, first-is, first-of}
-use Rattle.semver_core.proofs.Reading.Boundaries.{skips-is, skips-of, skips-utf8, some_space-is}
-use Rattle.semver_core.proofs.Reading.Boundaries.{suffix-boundary, tail-utf8}
+use Rattle.semver_core.specs.Text.Boundaries.{SkipsBlank}
 
 -- ---- boundaries
 

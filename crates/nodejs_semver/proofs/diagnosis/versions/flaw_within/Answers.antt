@@ -1,9 +1,6 @@
-use Rattle.nodejs_semver.proofs.Common.{◌≡◌, ◌-◌, ◌<◌, ℕ, zero, suc, List, length, false, sym, ap, ◌∙◌, arith, ◌==◌, eqb-true}
-use Rattle.nodejs_semver.proofs.Common.{IsAfterBlank, MAX_SAFE_INTEGER, lit≤, rules}
-use Rattle.nodejs_semver.specs.Words.{mark_len}
-use Rattle.semver_core.proofs.Text.Texts.{mark_boundary}
-use Rattle.nodejs_semver.proofs.Diagnosing.Flaws.{ended, ignored_left, left_fits, stuck_flaw, whole_left}
-use Rattle.semver_core.specs.Internal.Fronts.{pre_release_with}
+use Rattle.nodejs_semver.proofs.Common.{IsAfterBlank, List, MAX_SAFE_INTEGER, ap, arith, eqb-true, length, length-drop, lit≤, nat_tests, rules, sym}
+use Rattle.nodejs_semver.{proofs.{Common.{ℕ, ◌-◌, ◌∙◌}, Diagnosing.Flaws.{ended, ignored_left, stuck_flaw, whole_left}}, specs.Words.mark_len}
+use Rattle.semver_core.{proofs.Text.Texts.mark_boundary, specs.Internal.Fronts.pre_release_with}
 use Rattle.nodejs_semver.proofs.diagnosis.versions.flaw_within.Goals as goal
 
 pub skip_whitespace-requires : goal.skip_whitespace-requires
@@ -29,12 +26,7 @@ unfolding pre_release_with
 overflow_sub-at c =
     let left = ended MAX_SAFE_INTEGER c.args.text.now _ _ _ c.skip_whitespace.result c.in-Ok.end c.as_bytes-bytes.ensures.value
     c.in-Ok.ensures.found c.pre_release_front.ensures.value c.build_front.ensures.value in
-    let fits = left_fits MAX_SAFE_INTEGER c.args.text.now c.skip_whitespace.result c.build_front.result.1.now left in
-    omega (arith, fits, c.as_bytes-bytes.ensures.len)
-
-positive : (n : ℕ) → (n == 0) ≡ false → 0 < n
-positive zero h = cc h
-positive (suc n) h = omega arith
+    omega (arith, ap length left.2, length-drop left.0 c.args.text.now, c.as_bytes-bytes.ensures.len)
 
 pub returns-else-is_empty : goal.returns-else-is_empty
 unfolding pre_release_with
@@ -43,5 +35,5 @@ returns-else-is_empty c =
     let left = ended MAX_SAFE_INTEGER c.args.text.now _ _ _ c.skip_whitespace.result c.in-Ok.end c.as_bytes-bytes.ensures.value
     c.in-Ok.ensures.found c.pre_release_front.ensures.value c.build_front.ensures.value in
     ignored_left MAX_SAFE_INTEGER c.args.text.now c.skip_whitespace.result _ c.build_front.result.1.now c.utf8.text front c.requires left
-    (positive (length c.build_front.result.1.now) (sym c.is_empty.ensures ∙ c.if-is_empty.false))
+    (grind (arith, nat_tests))
     (ap (λ (t : List ℕ). length t - length c.build_front.result.1.now) c.as_bytes-bytes.ensures.value)

@@ -1,23 +1,15 @@
 use Rattle.nodejs_semver.proofs.Common.{IfSome, IsLeastOf, IsTrue, List, MAX_SAFE_INTEGER, Span, VersionValue, Writes, accepts, false, least_build}
 use Rattle.nodejs_semver.proofs.{Common.{subst, ◌↔◌, ◌≡◌}, Dividing.MeaningLaw.{means_some, same_meaning}}
 use Rattle.nodejs_semver.proofs.Sets.{both_written, first_written}
-use Rattle.nodejs_semver.proofs.Common.{Err, Failure, IfOk, Memory, Ok, OnOk, Refused, Result}
+use Rattle.nodejs_semver.proofs.Common.{Failure, IfOk-weaker, OnOk, Result, arith}
 use Rattle.semver_core.specs.{Failures.{RefusedOnlyIf}, Text.Parsing.{Parses}}
 use Rattle.nodejs_semver.proofs.laws.program.headline_of_texts.Goals as goal
 
--- what holds of each value that the calls return
-if_ok : {A E : Type 0} {P Q : A → Type 0} (r : Result A E) → ((x : A) → P x → Q x) → IfOk r P → IfOk r Q
-if_ok (Ok x) f h = f x h
-if_ok (Err e) f h = tt
-
 on_ok : {A E P : Type 0} (r : Result A E) → P → OnOk r P
-on_ok (Ok x) p = p
-on_ok (Err e) p = tt
+on_ok r p = grind arith
 
 never_refused : {A E : Type 0} (P : Type 0) (r : Result A (Failure E)) → RefusedOnlyIf r ⊥ → RefusedOnlyIf r P
-never_refused P (Ok x) h = tt
-never_refused P (Err (Refused e)) h = absurd h
-never_refused P (Err (Memory e)) h = tt
+never_refused P r h = grind arith
 
 pub returns : goal.returns
 returns c =
@@ -35,14 +27,14 @@ returns c =
         (c.in_ok-version.version, c.in_ok-version.ensures.ok),
       );
       refused = never_refused _ r found.refused;
-      first = if_ok r (λ x said w p. subst (λ (v : VersionValue). IsTrue x.in_first ↔ Writes MAX_SAFE_INTEGER a v) (same w p)
+      first = IfOk-weaker r _ _ (λ x said w p. subst (λ (v : VersionValue). IsTrue x.in_first ↔ Writes MAX_SAFE_INTEGER a v) (same w p)
           (rw said (one.set _))) found.first;
-      both = if_ok r (λ x said w p. subst (λ (v : VersionValue). IsTrue x.in_both ↔ (Writes MAX_SAFE_INTEGER a v × Writes MAX_SAFE_INTEGER b v))
+      both = IfOk-weaker r _ _ (λ x said w p. subst (λ (v : VersionValue). IsTrue x.in_both ↔ (Writes MAX_SAFE_INTEGER a v × Writes MAX_SAFE_INTEGER b v))
           (same w p) (both_written _ _ _ said (one.set _) (two.set _))) found.both;
-      first_alone = if_ok r (λ x said w p. subst (λ (v : VersionValue). IsTrue x.in_first_alone ↔ (Writes MAX_SAFE_INTEGER a v × (Writes MAX_SAFE_INTEGER b v → ⊥)))
+      first_alone = IfOk-weaker r _ _ (λ x said w p. subst (λ (v : VersionValue). IsTrue x.in_first_alone ↔ (Writes MAX_SAFE_INTEGER a v × (Writes MAX_SAFE_INTEGER b v → ⊥)))
           (same w p) (first_written _ _ _ said (one.set _) (two.set _))) found.first_alone;
-      least = if_ok r (λ x said list means. subst (λ (l : List (Span VersionValue)). IsLeastOf (λ w. accepts l w false) x.least)
+      least = IfOk-weaker r _ _ (λ x said list means. subst (λ (l : List (Span VersionValue)). IsLeastOf (λ w. accepts l w false) x.least)
           (same_meaning MAX_SAFE_INTEGER a c.in_ok-first.first list c.utf8.a one.ok means) said) found.least;
-      build = if_ok r (λ x said list means. subst (λ (l : List (Span VersionValue)). IfSome x.least (λ w. w.build ≡ least_build l w))
+      build = IfOk-weaker r _ _ (λ x said list means. subst (λ (l : List (Span VersionValue)). IfSome x.least (λ w. w.build ≡ least_build l w))
           (same_meaning MAX_SAFE_INTEGER a c.in_ok-first.first list c.utf8.a one.ok means) said) found.build;
     }

@@ -1,5 +1,5 @@
-use Rattle.nodejs_semver.proofs.Common.{Err, Failure, IsTrue, IsUtf8, List, MAX_SAFE_INTEGER, Means, Memory, MemoryOnlyIf, Refused, Span}
-use Rattle.nodejs_semver.proofs.Common.{VersionValue, Writes, [], ap, arith, length, subst, ℕ, ◌<◌, ◌↔◌, ◌∷◌}
+use Rattle.nodejs_semver.proofs.Common.{Err, Failure, IsTrue, IsUtf8, List, MAX_SAFE_INTEGER, Means, MemoryOnlyIf, Span}
+use Rattle.nodejs_semver.proofs.Common.{VersionValue, Writes, [], arith, length, subst, ℕ, ◌<◌, ◌↔◌, ◌∷◌}
 use Rattle.semver_core.specs.{Failures.{RefusedOnlyIf}, declared.error.SemverError.{SemverError}}
 use Rattle.nodejs_semver.proofs.Dividing.MeaningLaw.{same_meaning}
 use Rattle.nodejs_semver.proofs.laws.program.membership.Goals as goal
@@ -8,8 +8,7 @@ use Rattle.nodejs_semver.proofs.laws.program.membership.Goals as goal
 one-is-read : (A : Type 0) (limit : ℕ) (text : List ℕ) (s : Span VersionValue) → IsUtf8 text → Means limit text (s ∷ [])
     → (e : Failure SemverError) → RefusedOnlyIf {A = A} (Err e) (Means limit text [])
     → MemoryOnlyIf {A = A} (Err e) ((r : List (Span VersionValue)) → Means limit text r → 1 < length r) → ⊥
-one-is-read A limit text s u m (Refused e) r h = omega (arith, ap length (same_meaning limit text (s ∷ []) [] u m r))
-one-is-read A limit text s u m (Memory e) r h = omega (arith, h (s ∷ []) m)
+one-is-read A limit text s u m e r h = grind (arith, same_meaning limit text (s ∷ []) [] u m)
 
 pub returns-in_err-range-clause-answered : goal.returns-in_err-range-clause-answered
 returns-in_err-range-clause-answered c = λ s w m p.

@@ -1,5 +1,6 @@
-use Rattle.nodejs_semver.proofs.Common.{IfOk-weaker, ap, arith, if_any, length, on_err, on_err_weaker, spans_of, subst, sym, ◌<◌, ◌∙◌}
-use Rattle.nodejs_semver.proofs.Algebra.Clauses.{intervals-ordered, listed_none, listed_some, meets_of-is, meets_of-lone, meets_of-some, meets_of-valid}
+use Rattle.nodejs_semver.proofs.Common.{IfOk-weaker, ap, arith, if_any, length, none_of, on_err, on_err_weaker, option_to_list, part_some, refl, spans_of, subst}
+use Rattle.nodejs_semver.proofs.Common.{sym, ◌<◌, ◌∙◌}
+use Rattle.nodejs_semver.proofs.Algebra.Clauses.{intervals-ordered, meets_of-is, meets_of-lone, meets_of-some, meets_of-valid}
 use Rattle.nodejs_semver.proofs.range.RangeOf.common.Goals as goal
 
 pub returns-then-not-meets-clause-list : goal.returns-then-not-meets-clause-list
@@ -8,7 +9,7 @@ returns-then-not-meets-clause-list g c =
     (omega arith) (omega arith) c.index-these-0.is c.index-others-0.is in
     let is = meets_of-is _ _ g.met.V.VersionPoint.ordered _ _ _ _
     c.items-these.ensures.valid c.items-others.ensures.valid c.items-these.ensures.value c.items-others.ensures.value in
-    ap if_any (ap (spans_of g.V.Versioned.value) (sym (lone ∙ listed_none _ _ c.meets.ensures c.if-not-meets.true)) ∙ is)
+    ap if_any (ap (spans_of g.V.Versioned.value) (sym (lone ∙ ap option_to_list (none_of _ (sym c.meets.ensures ∙ c.if-not-meets.true)))) ∙ is)
 
 pub common_of_two-requires : goal.common_of_two-requires
 common_of_two-requires g c =
@@ -28,7 +29,7 @@ returns-then-others-eq1 g c =
           c.common_of_two.ensures.list;
       memory = on_err_weaker c.common_of_two.result (λ e. meets_of-some _ _ g.met.V.VersionPoint.ordered _ _ _ _
           c.items-these.ensures.valid c.items-others.ensures.valid c.items-these.ensures.value c.items-others.ensures.value
-          (subst (λ l. 0 < length l) (sym lone) (listed_some _ e))) c.common_of_two.ensures.memory;
+          (subst (λ l. 0 < length l) (sym lone) (part_some _ _ refl e))) c.common_of_two.ensures.memory;
     }
 
 pub push_all_intersections-requires : goal.push_all_intersections-requires

@@ -1,13 +1,12 @@
-use Rattle.nodejs_semver.proofs.Common.{Any, BeginsOtherwise, Bor, IfNone, IfSome, IsLeastOf, IsLeastSoFar, List, None, Option, Some, Span}
-use Rattle.nodejs_semver.proofs.Common.{VersionValue, accepts, ap, arith, false, least_build, length, subst, take_all, value_of, ◌<◌, ◌≡◌}
+use Rattle.nodejs_semver.proofs.Common.{Any, BeginsOtherwise, Bor, IfNone, IfSome, IsLeastOf, IsLeastSoFar, List, Option, Some, Span}
+use Rattle.nodejs_semver.proofs.Common.{VersionValue, accepts, arith, false, least_build, length, subst, take_all, value_of, ◌<◌, ◌≡◌}
 use Rattle.nodejs_semver.proofs.Questions.Spans.{any_at, on_none, one_further}
 use Rattle.nodejs_semver.proofs.range.RangeOf.least_start.Goals as goal
 
 settled : {V : Type 0} (value : V → VersionValue) (ss : List (Span VersionValue)) (least : Option (Bor V)) → IsLeastSoFar ss (value_of value least)
     → 0 < length ss → IfSome least (λ v. IsLeastOf (λ w. accepts ss w false) (Some (value v.now)))
     × IfSome least (λ v. (value v.now).build ≡ least_build ss (value v.now)) × IfNone least (Any BeginsOtherwise ss)
-settled value ss None is some = (tt, tt, absurd (omega (arith, ap length is, some)))
-settled value ss (Some v) is some = (is.0, is.1, tt)
+settled value ss least is some = grind arith
 
 pub loop-interval-preserved : goal.loop-interval-preserved
 loop-interval-preserved g c = one_further g.V.Versioned.value c.items-intervals.result.now c.loop-interval.interval-index c.interval-item.result _ _ _

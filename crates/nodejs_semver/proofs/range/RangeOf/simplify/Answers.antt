@@ -1,23 +1,10 @@
-use Rattle.nodejs_semver.proofs.{Common.{IfOk-weaker, arith, on_err, refl, sym, take_all, ◌∙◌}, Questions.Unions.{copy-same, copy-shorter, goes_behind}}
-use Rattle.nodejs_semver.proofs.Questions.Unions.{none-list, some-list, some-same, some-shorter, stays_behind, taken_at, used-taking, used-valid}
+use Rattle.nodejs_semver.proofs.{Common.{IfOk-weaker, ap, arith, common_steps, length, nat_tests, on_err, refl, sym, take_all, ◌∙◌}, Questions.Unions.{copy-same}}
+use Rattle.nodejs_semver.proofs.Questions.Unions.{none-list, some-list, some-same, some-shorter, taken_at, used-taking, used-valid}
 use Rattle.nodejs_semver.proofs.Values.{taking-values}
-use Rattle.nodejs_semver.proofs.range.RangeOf.simplify.Goals.{else-is_used, then-is_used+in_ok-push_copy}
 use Rattle.nodejs_semver.proofs.range.RangeOf.simplify.Goals as goal
 
 pub loop-interval-preserved : goal.loop-interval-preserved
-loop-interval-preserved g c = elim c.if-is_used.branch [
-  | then-is_used+in_ok-push_copy w ↦ rw w.used-is (
-    w.in_ok-push_copy.ensures.room,
-    stays_behind _ c.items-intervals.result.now _
-        c.interval-item.result c.new-used.result.items _ _ c.loop-interval-test.true c.interval-item.is (sym c.is_used.ensures ∙ w.if-is_used.true)
-        c.loop-interval.invariant.1 w.in_ok-push_copy.ensures.whole,
-  )
-  | else-is_used w ↦ rw w.used-is (
-    c.loop-interval.invariant.0,
-    goes_behind _ c.items-intervals.result.now _ c.interval-item.result
-        c.new-used.result.items _ c.loop-interval-test.true c.interval-item.is (sym c.is_used.ensures ∙ w.if-is_used.false) c.loop-interval.invariant.1,
-  )
-]
+loop-interval-preserved g c = grind (arith, nat_tests, common_steps)
 
 pub returns-in_err-push_copy-clause-memory : goal.returns-in_err-push_copy-clause-memory
 returns-in_err-push_copy-clause-memory g c =
@@ -52,6 +39,6 @@ returns-in-None g c =
     record {
       list = IfOk-weaker c.copy.result _ _ (λ r e. e ∙ none) c.copy.ensures.whole;
       same = IfOk-weaker c.copy.result _ _ (λ r e. copy-same r c.args.self.now _ e) c.copy.ensures.whole;
-      shorter = IfOk-weaker c.copy.result _ _ (λ r e. copy-shorter r c.args.self.now e) c.copy.ensures.whole;
+      shorter = IfOk-weaker c.copy.result _ _ (λ r e. omega (arith, ap length e)) c.copy.ensures.whole;
       memory = rw (sym none) c.copy.ensures.memory;
     }

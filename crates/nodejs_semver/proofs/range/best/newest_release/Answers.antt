@@ -1,9 +1,6 @@
-use Rattle.nodejs_semver.proofs.Common.{is_release, refl, sym, take_all, value_of}
+use Rattle.nodejs_semver.proofs.Common.{arith, is_release, refl, take_all, value_of}
 use Rattle.nodejs_semver.proofs.Questions.Best.{max_further, max_version, replaces_both}
 use Rattle.nodejs_semver.proofs.range.best.newest_release.Goals as goal
-use Rattle.nodejs_semver.proofs.range.best.newest_release.Goals.{else-is_none_above, else-is_none_above-via-else-is_none_above}
-use Rattle.nodejs_semver.proofs.range.best.newest_release.Goals.{else-is_none_above-via-then-is_none_above+else-is_release}
-use Rattle.nodejs_semver.proofs.range.best.newest_release.Goals.{then-is_none_above+then-is_release}
 
 pub loop-version-preserved : goal.loop-version-preserved
 loop-version-preserved g c =
@@ -11,15 +8,7 @@ loop-version-preserved g c =
     let best = value_of value c.loop-version.best in
     let both = replaces_both _ is_release best (value c.version-item.result) _ c.is_none_above.ensures in
     max_further value is_release c.args.versions.now _ c.version-item.result _ _ _ c.loop-version-test.true c.version-item.is
-    (elim c.if-is_none_above.branch [
-      | then-is_none_above+then-is_release w ↦
-          rw (w.best-is, both, w.if-is_none_above.true, sym w.is_release.ensures, w.if-is_release.true) refl
-      | else-is_none_above w ↦ elim w.else-is_none_above.branch [
-        | else-is_none_above-via-then-is_none_above+else-is_release u ↦
-            rw (w.best-is, both, u.if-is_none_above.true, sym u.is_release.ensures, u.if-is_release.false) refl
-        | else-is_none_above-via-else-is_none_above u ↦ rw (w.best-is, both, u.if-is_none_above.false) refl
-      ]
-    ]) refl c.loop-version.invariant
+    (grind (arith, both)) refl c.loop-version.invariant
 
 pub returns : goal.returns
 returns g c =

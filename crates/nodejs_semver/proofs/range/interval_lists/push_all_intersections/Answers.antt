@@ -1,16 +1,11 @@
-use Rattle.nodejs_semver.proofs.Common.{ap, append-nil, flat_behind, flat_some, length, none_of, on_err, option_to_list, part_some}
+use Rattle.nodejs_semver.proofs.Common.{ap, append-nil, arith, flat_behind, flat_some, length, none_of, on_err, part_some}
 use Rattle.nodejs_semver.proofs.Common.{refl, subst, sym, take_all, ◌++◌, ◌<◌, ◌∙◌}
 use Rattle.nodejs_semver.proofs.Algebra.Near.{flat_near}
-use Rattle.nodejs_semver.proofs.range.interval_lists.push_all_intersections.Goals.{then-meets+in_ok-push_common, else-meets}
 use Rattle.nodejs_semver.proofs.range.interval_lists.push_all_intersections.Goals as goal
 
 pub loop-another-preserved : goal.loop-another-preserved
 loop-another-preserved g c = flat_behind _ c.near-near.result.now _ c.another-item.result c.loop-interval.found.items c.loop-another.found.items c.if-meets.found.items _
-    c.loop-another-test.true c.another-item.is refl c.loop-another.invariant (elim c.if-meets.branch [
-      | then-meets+in_ok-push_common w ↦ rw w.found-is w.in_ok-push_common.ensures.items
-      | else-meets w ↦ rw w.found-is (sym (ap (λ m. c.loop-another.found.items ++ option_to_list m)
-          (none_of _ (sym c.meets.ensures ∙ w.if-meets.false)) ∙ append-nil _))
-    ])
+    c.loop-another-test.true c.another-item.is refl c.loop-another.invariant (grind (arith, none_of, append-nil))
 
 pub loop-interval-preserved : goal.loop-interval-preserved
 loop-interval-preserved g c = flat_behind _ c.args.these.now _ c.interval-item.result c.args.found.now.items _ _ _ c.loop-interval-test.true

@@ -1,12 +1,11 @@
 use Rattle.nodejs_semver.proofs.Common.{List, Option, [], ap, append_assoc, arith, flat_behind, flat_some, inl, inr, is_some, length, length-append}
-use Rattle.nodejs_semver.proofs.Common.{on_err, option_to_list, part_some, refl, sym, take_all, true, ◌++◌, ◌<◌, ◌∙◌, ◌≡◌, ◌⊎◌}
+use Rattle.nodejs_semver.proofs.Common.{on_err, option_to_list, refl, sym, take_all, true, ◌++◌, ◌<◌, ◌∙◌, ◌≡◌, ◌⊎◌}
 use Rattle.nodejs_semver.proofs.Algebra.Differences.{pushed, some-map, unpushed}
 use Rattle.nodejs_semver.proofs.range.interval_lists.remainders.Goals.{then-meets+in_ok-push+in_ok-push-2, else-meets+in_ok-push-3}
 use Rattle.nodejs_semver.proofs.range.interval_lists.remainders.Goals as goal
 
 some_left : {A : Type 0} (m n : Option A) → (is_some m ≡ true) ⊎ (is_some n ≡ true) → 0 < length (option_to_list m ++ option_to_list n)
-some_left m n (inl h) = omega (arith, length-append (option_to_list m) (option_to_list n), part_some m m refl h)
-some_left m n (inr h) = omega (arith, length-append (option_to_list m) (option_to_list n), part_some n n refl h)
+some_left m n h = grind (arith, length-append)
 
 both : {A : Type 0} (old mid new m n : List A) → mid ≡ old ++ m → new ≡ mid ++ n → new ≡ old ++ (m ++ n)
 both old mid new m n e f = f ∙ ap (λ l. l ++ n) e ∙ append_assoc old m n

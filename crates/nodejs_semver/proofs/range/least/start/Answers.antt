@@ -1,10 +1,8 @@
-use Rattle.nodejs_semver.proofs.Common.{After, Before, Bound, Unbounded, VersionValue, bound_of, refl, ◌∙◌, ◌≡◌}
+use Rattle.nodejs_semver.proofs.Common.{Before, Bound, VersionValue, arith, bound_of, ◌∙◌, ◌≡◌}
 use Rattle.nodejs_semver.proofs.range.least.start.Goals as goal
 
 not_before : {V : Type 0} (value : V → VersionValue) (b : Bound V) → ((x : V) → b ≡ Before x → ⊥) → (v : VersionValue) → bound_of value b ≡ Before v → ⊥
-not_before value Unbounded h v e = cc e
-not_before value (After x) h v e = cc e
-not_before value (Before x) h v e = h x refl
+not_before value b h v e = grind arith
 
 pub returns-in_default : goal.returns-in_default
 returns-in_default g c = record {

@@ -1,6 +1,4 @@
-use Rattle.nodejs_semver.proofs.Common.{ap, has_written_styled_append, has_written_styled_of_eq, is_eq, refl, rules, sym, ◌∙◌}
-use Rattle.nodejs_semver.proofs.range.print.write_interval.Goals.{in_default-via-in-Before-After+else-are_equal}
-use Rattle.nodejs_semver.proofs.range.print.write_interval.Goals.{in_default-via-in-Before+in_default, in_default-via-in_default+in_default}
+use Rattle.nodejs_semver.proofs.Common.{ap, arith, has_written_styled_append, has_written_styled_of_eq, is_eq, refl, sym, ◌∙◌}
 use Rattle.nodejs_semver.proofs.range.print.write_interval.Goals as goal
 
 pub returns-in_ok-write_str-in_default : goal.returns-in_ok-write_str-in_default
@@ -8,11 +6,8 @@ returns-in_ok-write_str-in_default g c flush ok =
     let lower = c.in_ok-write_lower-in_default.ensures flush refl in
     let space = c.in_ok-write_str-in_default.ensures.styled lower.flush refl in
     let upper = c.write_upper-in_default.ensures space.flush ok in
-    has_written_styled_of_eq _ _ _ _ _ (elim c.in_default.branch [
-      | in_default-via-in-Before-After+else-are_equal w ↦ search rules
-      | in_default-via-in-Before+in_default w ↦ search rules
-      | in_default-via-in_default+in_default w ↦ search rules
-    ]) (has_written_styled_append _ _ _ _ _ _ lower (has_written_styled_append _ _ _ _ _ _ space upper))
+    has_written_styled_of_eq _ _ _ _ _ (grind arith)
+    (has_written_styled_append _ _ _ _ _ _ lower (has_written_styled_append _ _ _ _ _ _ space upper))
 
 pub returns-in-Before-After : goal.returns-in-Before-After
 returns-in-Before-After g c flush ok = has_written_styled_of_eq _ _ _ _ _

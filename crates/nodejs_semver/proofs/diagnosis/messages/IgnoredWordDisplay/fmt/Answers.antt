@@ -1,17 +1,13 @@
-use Rattle.nodejs_semver.proofs.Common.{◌≡◌, ap, refl, rules, sym, ◌∙◌, List, ℕ, ◌++◌, append_assoc, has_written_styled_append, decimal}
+use Rattle.nodejs_semver.proofs.Common.{◌≡◌, ap, arith, refl, sym, ◌∙◌, List, ℕ, ◌++◌, append_assoc, has_written_styled_append, decimal}
 use Rattle.nodejs_semver.proofs.Common.{codes, has_written_styled_of_eq, subst}
 use Rattle.std.specs.Fmt.{IsDefaultSpec}
 use Rattle.nodejs_semver.specs.Diagnosis.Messages.{kind_text}
-use Rattle.nodejs_semver.proofs.diagnosis.messages.IgnoredWordDisplay.fmt.Goals.{in-Malformed, in-WithoutBounds}
 use Rattle.nodejs_semver.proofs.diagnosis.messages.IgnoredWordDisplay.fmt.Goals as goal
 
 pub returns-clause-styled : goal.returns-clause-styled
 returns-clause-styled g c flush ok =
     let word = c.args.self.now in
-    let message : c.match-self.message.now ≡ kind_text word.kind = elim c.match-self.branch [
-      | in-Malformed w ↦ search rules
-      | in-WithoutBounds w ↦ search rules
-    ] in
+    let message : c.match-self.message.now ≡ kind_text word.kind = grind arith in
     let begin = c.in_ok-write_at.ensures flush refl in
     let end = c.write_at-2.ensures begin.flush ok in
     has_written_styled_of_eq _ _ _ _ _ (ap (λ (t : List ℕ). t ++ decimal word.start ++ (codes " to " ++ decimal word.end)) message
