@@ -129,26 +129,22 @@ one-span : (include : Bool) (cs : List Comparison) (o : Option (Span VersionValu
 one-span include cs o h = rw h.is (cond_both (is_interval precedence h.span) (Some h.span) None
     (λ m. list_all (is_range_span (MAX_SAFE_INTEGER + 1)) (option_to_list m) ≡ true) (λ i. rw (i, h.has.lower, h.has.upper) refl) (λ _. refl))
 
--- an alternative behind others, and before them
-found-append : (include : Bool) (ls : List (List Comparison)) (cs : List Comparison) (o : Option (Span VersionValue))
-    (before after : List (Span VersionValue)) → AreFound include ls before → IsNarrowed include cs o → after ≡ before ++ option_to_list o
-    → AreFound include (ls ++ cs ∷ []) after
-found-append include ls cs o before after h k e = record {
-  are = grind (arith, nat_tests, e, h.are, narrowed-interval include cs o k, append-nil, filter_map-append);
-  spans = rw (e, list_all-append (is_range_span (MAX_SAFE_INTEGER + 1)) before (option_to_list o), h.spans, one-span include cs o k) refl;
-}
+-- one alternative, and the alternatives of two lists
+pub found-one : (include : Bool) (cs : List Comparison) (o : Option (Span VersionValue)) → IsNarrowed include cs o
+    → AreFound include (cs ∷ []) (option_to_list o)
+found-one include cs o h = record { are = grind (arith, narrowed-interval include cs o h); spans = one-span include cs o h }
 
-pub found-cons : (include : Bool) (ls : List (List Comparison)) (cs : List Comparison) (o : Option (Span VersionValue))
-    (others : List (Span VersionValue)) → AreFound include ls others → IsNarrowed include cs o
-    → AreFound include (cs ∷ ls) (option_to_list o ++ others)
-found-cons include ls cs o others h k = record {
-  are = grind (arith, nat_tests, h.are, narrowed-interval include cs o k);
-  spans = rw (list_all-append (is_range_span (MAX_SAFE_INTEGER + 1)) (option_to_list o) others, h.spans, one-span include cs o k) refl;
+pub found-both : (include : Bool) (ls ms : List (List Comparison)) (ss ts : List (Span VersionValue)) → AreFound include ls ss
+    → AreFound include ms ts → AreFound include (ls ++ ms) (ss ++ ts)
+found-both include ls ms ss ts h k = record {
+  are = grind (arith, h.are, k.are, filter_map-append);
+  spans = grind (arith, h.spans, k.spans, list_all-append);
 }
 
 pub part-added : (include : Bool) (o : Option (Bool × List Comparison)) (a : Alternative) (was : Bool) (before after : List (Span VersionValue))
     → IsFound include o (Some a) → a.is_lost ≡ false → after ≡ before ++ option_to_list a.interval → AddsPart include o was true before after
-part-added include (Some (false, cs)) a was before after h l e = (refl, λ ls k. found-append include ls cs a.interval before after k h.0 e)
+part-added include (Some (false, cs)) a was before after h l e =
+    (refl, λ ls k. rw e (found-both include ls (cs ∷ []) before (option_to_list a.interval) k (found-one include cs a.interval h.0)))
 part-added include o a was before after h l e = grind arith
 
 -- ---- the alternatives, up to a rest of the text

@@ -13,18 +13,22 @@ use Rattle.npm_words.specs.Internal.Words as Npm
 use Rattle.semver_core.specs.Values.Spans as Sides
 
 -- the intervals of a text here, and those to node-semver
-abbrev pub here : List ℕ → List (Span VersionValue)
+abbrev here : List ℕ → List (Span VersionValue)
 here text = denotes MAX_SAFE_INTEGER text
 
-abbrev pub there : List ℕ → List (Span VersionValue)
+abbrev there : List ℕ → List (Span VersionValue)
 there text = intervals_in false (unwrap_or (npm_alternatives false false text) [])
 
-abbrev pub Alike : List ℕ → Type 0
+abbrev Alike : List ℕ → Type 0
 Alike text = AreAlike (here text) (there text)
 
 -- from a release to below the least pre-release of another one
-abbrev pub band : ℕ → ℕ → Span VersionValue
+abbrev band : ℕ → ℕ → Span VersionValue
 band M n = record { lower = Before (release_value M 0 0); upper = Before (lowest n 0 0) }
+
+-- 1.0.0-a
+abbrev lettered : VersionValue
+lettered = record (release_value 1 0 0) { pre_release = AlphaNumeric (codes "a") ∷ [] }
 
 rows-alike : Alike (codes "^1.2.3") × Alike (codes "~1.2") × Alike (codes "1.x || >=3.0.0") × Alike (codes "1.0.0 - 2.3") × Alike (codes ">=1.0.0-rc.1 <2")
     × Alike (codes "<1") × Alike (codes "<=1.2") × Alike (codes "0.x") × Alike (codes "*") × Alike (codes " || ")
@@ -33,35 +37,19 @@ unfolding table is_boundary number_of number_with space_len after_spaces drop_en
     signed_word npm_sign places_front place_front dotted_place dotted_patch patch_place qualified_partial pre_front pre_release_with written_zeros
 rows-alike = ((refl, tt), (refl, tt), (refl, (refl, tt)), (refl, tt), (refl, tt), (refl, tt), (refl, tt), (refl, tt), (refl, tt), (refl, tt))
 
--- `^1  ||>2   < 4 ~v3` is the same in both
-row-words : (here (codes "^1  ||>2   < 4 ~v3") ≡ band 1 2 ∷ (band 3 4 ∷ [])) × (there (codes "^1  ||>2   < 4 ~v3") ≡ band 1 2 ∷ (band 3 4 ∷ []))
+rows-intervals :
+    -- `^1  ||>2   < 4 ~v3` has the same in both
+    (here (codes "^1  ||>2   < 4 ~v3") ≡ band 1 2 ∷ (band 3 4 ∷ [])) × (there (codes "^1  ||>2   < 4 ~v3") ≡ band 1 2 ∷ (band 3 4 ∷ []))
+    -- `<1` has another upper bound, and `*` no lower one
+    × (here (codes "<1") ≡ Sides.< (release_value 1 0 0) ∷ []) × (there (codes "<1") ≡ Sides.< (lowest 1 0 0) ∷ [])
+    × (here (codes "*") ≡ Sides.>= (release_value 0 0 0) ∷ []) × (there (codes "*") ≡ any_version)
+    -- `>=1.0.0-a <1` is an interval here, and accepts nothing to node-semver
+    × (here (codes ">=1.0.0-a <1") ≡ record { lower = Before lettered; upper = Before (release_value 1 0 0) } ∷ [])
+    × (there (codes ">=1.0.0-a <1") ≡ Sides.< (lowest 0 0 0) ∷ []) × (Alike (codes ">=1.0.0-a <1") → ⊥)
 unfolding table is_boundary number_of number_with space_len after_spaces drop_end_spaces cut_bars partial_front component_front dotted_front pre_release_front build_front
     list_len listed word_at words_within from_boundary runs_from digits alternatives_of alternative_of hyphen_ends end_front after_ends Npm.words_within first_word
     signed_word npm_sign places_front place_front dotted_place dotted_patch patch_place qualified_partial pre_front pre_release_with written_zeros
-row-words = (refl, refl)
-
--- `<1` has another upper bound, and `*` no lower one
-row-below : (here (codes "<1") ≡ Sides.< (release_value 1 0 0) ∷ []) × (there (codes "<1") ≡ Sides.< (lowest 1 0 0) ∷ [])
-unfolding table is_boundary number_of number_with space_len after_spaces drop_end_spaces cut_bars partial_front component_front dotted_front pre_release_front build_front
-    list_len listed word_at words_within from_boundary runs_from digits alternatives_of alternative_of hyphen_ends end_front after_ends Npm.words_within first_word
-    signed_word npm_sign places_front place_front dotted_place dotted_patch patch_place qualified_partial pre_front pre_release_with written_zeros
-row-below = (refl, refl)
-
-row-any : (here (codes "*") ≡ Sides.>= (release_value 0 0 0) ∷ []) × (there (codes "*") ≡ any_version)
-unfolding table is_boundary number_of number_with space_len after_spaces drop_end_spaces cut_bars partial_front component_front dotted_front pre_release_front build_front
-    list_len listed word_at words_within from_boundary runs_from digits alternatives_of alternative_of hyphen_ends end_front after_ends Npm.words_within first_word
-    signed_word npm_sign places_front place_front dotted_place dotted_patch patch_place qualified_partial pre_front pre_release_with written_zeros
-row-any = (refl, refl)
-
--- `>=1.0.0-a <1` accepts 1.0.0-a here, and nothing to node-semver
-row-apart : (here (codes ">=1.0.0-a <1") ≡ record {
-  lower = Before (record (release_value 1 0 0) { pre_release = AlphaNumeric (codes "a") ∷ [] });
-  upper = Before (release_value 1 0 0);
-} ∷ []) × (there (codes ">=1.0.0-a <1") ≡ Sides.< (lowest 0 0 0) ∷ []) × (Alike (codes ">=1.0.0-a <1") → ⊥)
-unfolding table is_boundary number_of number_with space_len after_spaces drop_end_spaces cut_bars partial_front component_front dotted_front pre_release_front build_front
-    list_len listed word_at words_within from_boundary runs_from digits alternatives_of alternative_of hyphen_ends end_front after_ends Npm.words_within first_word
-    signed_word npm_sign places_front place_front dotted_place dotted_patch patch_place qualified_partial pre_front pre_release_with written_zeros
-row-apart = (refl, refl, λ h. cc h.0)
+rows-intervals = (refl, refl, refl, refl, refl, refl, refl, refl, λ h. cc h.0)
 
 -- the range of a text, of which the second alternative is empty
 row-range : IsRangeIn false MAX_SAFE_INTEGER false (codes "^1.2 ||") any_version
