@@ -7,7 +7,7 @@ use Rattle.nodejs_semver.proofs.Common.{option_to_list, parts, precedence, refl,
 use Rattle.nodejs_semver.proofs.Common.{◌≤◌}
 use Rattle.npm_reading.proofs.Grammar.{Intervals.{narrowed-interval, range_accepts, ranged-found}, WordLoop.{AreWordsTo, first-none, valid-found}}
 use Rattle.npm_reading.{proofs.Grammar.WordLoop.{words-end, words-next, words-none}, specs.Internal.Alternatives.{NarrowedBy, ranged}}
-use Rattle.npm_reading.specs.Internal.Reads.{AddsPart, AreAllFound, AreFound, IsFound, IsStep, first_valid, valid_alternative, valid_alternatives}
+use Rattle.npm_reading.specs.Internal.Reads.{AddsPart, AreFound, IsFound, IsStep, first_valid, valid_alternative, valid_alternatives}
 use Rattle.npm_reading.specs.{Internal.Reads.{valid_range, words_of}, Ranges.IsRangeIn, Readings.{OfAccepted, ReadText}}
 use Rattle.{npm_reading.specs.declared.alternatives.Alternative.Alternative, npm_words.proofs.Common.{Comparison, Ended, HasAlternativesIn}}
 use Rattle.npm_words.proofs.Common.{IsNarrowed, alternative_of, alternatives_of, capped_in, capped_partial, first_word, hyphen_ends, hyphen_of}
@@ -192,24 +192,10 @@ read-part loose include text was is found after rest part behind h e a = go _ re
       some = k.0 ∙ grind (arith, nat_tests, common_steps);
     }
 
--- the same of a call that rejects the part
-pub refused-weaker : {A E : Type 0} {P Q : Type 0} (r : Result A (Failure E)) → (P → Q) → RefusedOnlyIf r P → RefusedOnlyIf r Q
-refused-weaker r f k = grind (arith, f)
-
-pub read-refused : (loose : Bool) {A E : Type 0} (r : Result A (Failure E)) (include : Bool) (text : List ℕ) (was : Bool)
-    (found : List (Span VersionValue)) (rest part : List ℕ) (behind : Option (List ℕ)) → AreReadTo loose include text was found (Some rest)
-    → part ∷ later_parts behind ≡ parts rest → RefusedOnlyIf r (valid_alternative loose include part ≡ None)
-    → RefusedOnlyIf r (valid_range loose include text ≡ None)
-read-refused loose r include text was found rest part behind h e = refused-weaker r (λ k. rw (h.same, rest-step loose include rest part behind None e k) refl)
-
 pub all-read : (loose include is_some : Bool) (text : List ℕ) (found : List (Span VersionValue)) (h : AreReadTo loose include text is_some found None)
     → valid_range loose include text ≡ (if is_some then Some h.read else None)
 unfolding valid_alternatives
 all-read loose include is_some text found h = rw (h.same, append-nil h.read, h.some) refl
-
-pub read-all : (loose include : Bool) (text : List ℕ) (found : List (Span VersionValue)) → AreReadTo loose include text true found None
-    → AreAllFound include (valid_range loose include text) found
-read-all loose include text found h = rw (all-read loose include true text found h) h.are
 
 -- ---- the range of a text
 
@@ -234,27 +220,33 @@ none-read loose include text u h ls has =
     let k = (alternatives_are loose MAX_SAFE_INTEGER include text ls u).0 has in
     grind (arith, nat_tests, common_steps, all-valid)
 
+-- the same of a call that rejects a part
+refused-weaker : {A E : Type 0} {P Q : Type 0} (r : Result A (Failure E)) → (P → Q) → RefusedOnlyIf r P → RefusedOnlyIf r Q
+refused-weaker r f k = grind (arith, f)
+
+pub read-refused : (loose : Bool) {A E : Type 0} (r : Result A (Failure E)) (include : Bool) (text : List ℕ) (was : Bool)
+    (found : List (Span VersionValue)) (rest part : List ℕ) (behind : Option (List ℕ)) → IsUtf8 text
+    → AreReadTo loose include text was found (Some rest) → part ∷ later_parts behind ≡ parts rest
+    → RefusedOnlyIf r (valid_alternative loose include part ≡ None)
+    → RefusedOnlyIf r (NoValue (HasAlternativesIn loose MAX_SAFE_INTEGER include text))
+read-refused loose r include text was found rest part behind u h e =
+    refused-weaker r (λ k. none-read loose include text u (rw (h.same, rest-step loose include rest part behind None e k) refl))
+
 has-read : (loose include : Bool) (text : List ℕ) (all : List (List Comparison)) → IsUtf8 text
     → valid_range loose include text ≡ Some all → HasAlternativesIn loose MAX_SAFE_INTEGER include text all
 has-read loose include text all u h = grind (arith, nat_tests, common_steps, cond_some, not, all-valid, not-true, alternatives_are)
 
 pub range-read : (loose include : Bool) (text : List ℕ) (found range : List (Span VersionValue)) → IsUtf8 text
-    → AreAllFound include (valid_range loose include text) found → range ≡ ranged found
-    → IsRangeIn loose MAX_SAFE_INTEGER include text range
-range-read loose include text found range u h a = go (valid_range loose include text) refl h
-  where
-    go : (o : Option (List (List Comparison))) → valid_range loose include text ≡ o → AreAllFound include o found
-        → IsRangeIn loose MAX_SAFE_INTEGER include text range
-    go None e k = absurd k
-    go (Some all) e k = record { alternatives = all; has = has-read loose include text all u e; is = a ∙ ranged-found include all found k }
+    → AreReadTo loose include text true found None → range ≡ ranged found → IsRangeIn loose MAX_SAFE_INTEGER include text range
+range-read loose include text found range u h a = record {
+  alternatives = h.read;
+  has = has-read loose include text h.read u (all-read loose include true text found h);
+  is = a ∙ ranged-found include h.read found h.are;
+}
 
 pub memory-pieces : {A E : Type 0} (r : Result A (Failure E)) (text : List ℕ) → MemoryOnlyIf r (1 < length (parts text))
     → MemoryOnlyIf r ((pieces : List (List ℕ)) → IsCutAtBars text pieces → 1 < length pieces)
 memory-pieces r text k = grind (arith, nat_tests, common_steps, bars_once)
-
-pub all-spans : (loose include : Bool) (text : List ℕ) (found : List (Span VersionValue)) → AreAllFound include (valid_range loose include text) found
-    → list_all (is_range_span (MAX_SAFE_INTEGER + 1)) found ≡ true
-all-spans loose include text found h = grind (arith, nat_tests, common_steps)
 
 pub of_accepted : {Holds : (VersionValue → Bool) → Type 0} (r : ReadText) (range : List (Span VersionValue))
     → IsRangeIn r.reading.loose MAX_SAFE_INTEGER r.reading.include_prerelease r.text range
