@@ -1,6 +1,6 @@
 -- Lists of intervals that are alike accept the same versions.
 use Rattle.nodejs_semver.proofs.Common.{After, Before, Bool, Bound, Id, IsUtf8, List, MAX_SAFE_INTEGER, Means, Numeric, Ordering, Some, Span, Unbounded}
-use Rattle.nodejs_semver.proofs.Common.{VersionValue, accepts, and_parts, ap, denotes, arith, cases_Bool, common_steps, empty_is, false, holds, inl, inr, interval}
+use Rattle.nodejs_semver.proofs.Common.{VersionValue, accepts, and_parts, ap, denotes, arith, cases_Bool, common_steps, empty_is, false, holds, inl, inr}
 use Rattle.nodejs_semver.proofs.Common.{is_interval, is_le, is_lt, is_past, is_release, lets_in, list_all, lower_cut, lowest, names, nat_tests, not}
 use Rattle.nodejs_semver.proofs.Common.{ordering_then, passes, pre_cmp, precedence, refl, release_value, same_triple, sym, true, upper_cut, version_eq}
 use Rattle.nodejs_semver.proofs.Common.{[], ℕ, ◌&&◌, ◌+◌, ◌==◌, ◌||◌, ◌∙◌, ◌∷◌, ◌≡◌}
@@ -169,13 +169,11 @@ module _ (v : VersionValue) where
 
 -- ---- texts
 
-interval-is : (s t : Span VersionValue) → interval precedence s ≡ Some t → is_interval precedence t ≡ true
-interval-is s t e = let c = cond_some (is_interval precedence s) s t e in rw (← c.1) c.0
-
 intervals-are : (all : List (List Comparison)) → list_all (is_interval precedence) (intervals_in false all) ≡ true
 intervals-are all =
-    let each = filtered-each (is_interval precedence) (interval_in false) (λ cs s e. interval-is (common_in false cs) s e) all in
-    grind (arith, common_steps, each)
+    let is : (cs : List Comparison) (s : Span VersionValue) → interval_in false cs ≡ Some s → is_interval precedence s ≡ true =
+    λ cs s e. let c = cond_some (is_interval precedence (common_in false cs)) (common_in false cs) s e in rw (← c.1) c.0 in
+    grind (arith, common_steps, filtered-each (is_interval precedence) (interval_in false) is all)
 
 pub same-accepted : (text : List ℕ) (list : List (Span VersionValue)) (all : List (List Comparison)) (v : VersionValue) → IsUtf8 text
     → Means MAX_SAFE_INTEGER text list → HasAlternativesIn false MAX_SAFE_INTEGER false text all → AreAlike list (intervals_in false all)

@@ -11,7 +11,7 @@ use Rattle.npm_reading.specs.Internal.Reads.{AddsPart, AreFound, IsFound, IsStep
 use Rattle.npm_reading.specs.{Internal.Reads.{valid_range, words_of}, Ranges.IsRangeIn, Readings.{OfAccepted, ReadText}}
 use Rattle.{npm_reading.specs.declared.alternatives.Alternative.Alternative, npm_words.proofs.Common.{Comparison, Ended, HasAlternativesIn}}
 use Rattle.npm_words.proofs.Common.{IsNarrowed, alternative_of, alternatives_of, capped_in, capped_partial, first_word, hyphen_ends, hyphen_of}
-use Rattle.npm_words.proofs.Common.{is_free_lower, is_free_upper, is_lost, is_right, is_short_word, is_valid, kept, lower_of}
+use Rattle.npm_words.proofs.Common.{is_free_lower, is_free_upper, is_right, is_short_word, is_valid, kept, lower_of}
 use Rattle.npm_words.proofs.{Common.{signed_front_view, signed_word, upper_of, valid_one, words_of_all}, Grammar.AlternativeLaw.alternatives_are}
 use Rattle.npm_words.proofs.Grammar.{Hyphens.{both_capped, hyphen-capped}, Printed.{capped-valid, table-invalid, valid-same}}
 use Rattle.npm_words.specs.{Table.{Partial, table}, declared.words.Signed.Signed}
@@ -124,15 +124,14 @@ found-some include (Some c) a h = (c, refl, h)
 
 -- ---- one alternative more
 
-one-span : (include : Bool) (cs : List Comparison) (o : Option (Span VersionValue)) → IsNarrowed include cs o
-    → list_all (is_range_span (MAX_SAFE_INTEGER + 1)) (option_to_list o) ≡ true
-one-span include cs o h = rw h.is (cond_both (is_interval precedence h.span) (Some h.span) None
-    (λ m. list_all (is_range_span (MAX_SAFE_INTEGER + 1)) (option_to_list m) ≡ true) (λ i. rw (i, h.has.lower, h.has.upper) refl) (λ _. refl))
-
 -- one alternative, and the alternatives of two lists
 pub found-one : (include : Bool) (cs : List Comparison) (o : Option (Span VersionValue)) → IsNarrowed include cs o
     → AreFound include (cs ∷ []) (option_to_list o)
-found-one include cs o h = record { are = grind (arith, narrowed-interval include cs o h); spans = one-span include cs o h }
+found-one include cs o h = record {
+  are = grind (arith, narrowed-interval include cs o h);
+  spans = rw h.is (cond_both (is_interval precedence h.span) (Some h.span) None (λ m. list_all (is_range_span (MAX_SAFE_INTEGER + 1)) (option_to_list m) ≡ true)
+      (λ i. rw (i, h.has.lower, h.has.upper) refl) (λ _. refl));
+}
 
 pub found-both : (include : Bool) (ls ms : List (List Comparison)) (ss ts : List (Span VersionValue)) → AreFound include ls ss
     → AreFound include ms ts → AreFound include (ls ++ ms) (ss ++ ts)
