@@ -115,9 +115,7 @@ module _ (v : VersionValue) where
   -- no interval has a pre-release and the least one of its numbers as its ends
   ends-apart : (c : Bound VersionValue) (y : VersionValue) → y.pre_release ≡ Numeric 0 ∷ []
       → is_interval precedence (record { lower = c; upper = Before y }) ≡ true → names c v ≡ true → same_triple y v ≡ false
-  ends-apart (Before z) y e i n = grind (arith, nat_tests, common_steps, least z.pre_release)
-  ends-apart (After z) y e i n = grind (arith, nat_tests, common_steps, least z.pre_release)
-  ends-apart c y e i n = cc n
+  ends-apart c y e i n = grind (arith, nat_tests, common_steps, least)
 
   upper-under : (b c d : Bound VersionValue) → is_within MAX_SAFE_INTEGER v ≡ true
       → is_interval precedence (record { lower = c; upper = d }) ≡ true → (passes is_release b && is_same (under_lowest b) d) ≡ true

@@ -26,6 +26,7 @@ use std::alloc::Global;
 
 // What the alternative is with the word at the front, which is well-formed or ignored, and what
 // follows it and its whitespace. Says also whether it was ignored.
+#[tactic(auto, using(crate::proofs::Grammar::RangeReads::word_steps), unfolding(npm_words::specs::Internal::Words::first_word))]
 fn with_word<'a>(
     loose: bool,
     include: bool,

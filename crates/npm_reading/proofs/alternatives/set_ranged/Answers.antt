@@ -3,9 +3,6 @@ use Rattle.{npm_reading.proofs.Grammar.RangeReads.ranged_one, npm_words.specs.In
 use Rattle.std.proofs.lemmas.Iterator.{Search.any_from_yields_List, YieldsList-from_slice}
 use Rattle.npm_reading.proofs.alternatives.set_ranged.Goals as goal
 
-pub returns-then-len-eq1 : goal.returns-then-len-eq1
-returns-then-len-eq1 c = ranged_one c.args.found.now.items (first_of (search rules, grind (arith, common_steps)))
-
 pub returns-else-is_empty : goal.returns-else-is_empty
 returns-else-is_empty c =
     let none : list_any is_unbounded c.deref.result.now ≡ false =
