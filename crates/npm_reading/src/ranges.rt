@@ -89,6 +89,7 @@ fn between<'a>(
 }
 
 /// The alternative that a text is, without whitespace around it.
+#[tactic(auto, unfolding(crate::specs::Internal::Reads::valid_alternative, npm_words::specs::Internal::Words::alternative_of))]
 pub(crate) fn alternative(loose: bool, include: bool, text: &[u8]) -> Option<Alternative<'_>>
     requires { IsUtf8 text.now }
     ensures { IsFound include (valid_alternative loose include text.now) result }
@@ -101,6 +102,7 @@ pub(crate) fn alternative(loose: bool, include: bool, text: &[u8]) -> Option<Alt
 
 // Adds the interval of the alternative that a part of the text is, where its cuts meet, unless it
 // is lost. Returns whether this part or one before it is an alternative.
+#[tactic(auto, using(crate::proofs::Grammar::RangeReads::parts_added))]
 fn add_part<'a>(
     loose: bool,
     include: bool,

@@ -148,6 +148,8 @@ part-added include (Some (false, cs)) a was before after h l e =
     (refl, λ ls k. rw e (found-both include ls (cs ∷ []) before (option_to_list a.interval) k (found-one include cs a.interval h.0)))
 part-added include o a was before after h l e = grind arith
 
+pub ruleset parts_added = (part-added, append-nil)
+
 -- ---- the alternatives, up to a rest of the text
 
 -- what was read of a text, and what is left

@@ -1,5 +1,5 @@
 use Rattle.nodejs_semver.proofs.Common.{arith, common_steps, false, list_any, rules, sym, tests, ◌∙◌, ◌≡◌}
-use Rattle.{npm_reading.proofs.Grammar.RangeReads.ranged_one, npm_words.specs.Internal.Meaning.is_unbounded}
+use Rattle.{npm_words.specs.Internal.Meaning.is_unbounded}
 use Rattle.std.proofs.lemmas.Iterator.{Search.any_from_yields_List, YieldsList-from_slice}
 use Rattle.npm_reading.proofs.alternatives.set_ranged.Goals as goal
 

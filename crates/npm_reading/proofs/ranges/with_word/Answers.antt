@@ -1,6 +1,6 @@
-use Rattle.nodejs_semver.proofs.Common.{append-nil, arith, common_steps, List, Some, subst, ℕ}
-use Rattle.npm_reading.proofs.Grammar.RangeReads.{step-invalid, step-read}
-use Rattle.{npm_reading.specs.Internal.Alternatives.NarrowedBy, npm_words.proofs.Common.{Signed, capped_in, first_word, signed_view, signed_word}}
+use Rattle.nodejs_semver.proofs.Common.{arith, List, Some, subst, ℕ}
+use Rattle.npm_reading.proofs.Grammar.RangeReads.{step-read}
+use Rattle.{npm_reading.specs.Internal.Alternatives.NarrowedBy, npm_words.proofs.Common.{Signed, capped_in, signed_view, signed_word}}
 use Rattle.npm_words.{proofs.Grammar.{AlternativeLaw.word-normal, PartialLaw.front-as}, specs.Table.table}
 use Rattle.npm_reading.proofs.ranges.with_word.Goals as goal
 
