@@ -26,7 +26,7 @@ use std::alloc::Global;
 
 // What the alternative is with the word at the front, which is well-formed or ignored, and what
 // follows it and its whitespace. Says also whether it was ignored.
-#[tactic(auto, using(crate::proofs::Grammar::RangeReads::word_steps), unfolding(npm_words::specs::Internal::Words::first_word))]
+#[tactic(auto, unfolding(npm_words::specs::Internal::Words::first_word))]
 fn with_word<'a>(
     loose: bool,
     include: bool,
@@ -89,7 +89,6 @@ fn between<'a>(
 }
 
 /// The alternative that a text is, without whitespace around it.
-#[tactic(auto, unfolding(crate::specs::Internal::Reads::valid_alternative, npm_words::specs::Internal::Words::alternative_of))]
 pub(crate) fn alternative(loose: bool, include: bool, text: &[u8]) -> Option<Alternative<'_>>
     requires { IsUtf8 text.now }
     ensures { IsFound include (valid_alternative loose include text.now) result }

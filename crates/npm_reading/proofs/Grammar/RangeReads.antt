@@ -81,8 +81,6 @@ module _ (loose include : Bool) (text : List ℕ) (all : Alternative) where
         let valid = rw same at k in
         rw (e, n, valid.0) (valid, rw same at b, refl, f)
 
-pub ruleset word_steps = (step-invalid, append-nil)
-
 -- ---- words, one after another
 
 step-found : (include : Bool) (all : Alternative) (o : Option (Option (List Comparison) × List ℕ)) (s : Alternative × Bool × Bor (List ℕ))
