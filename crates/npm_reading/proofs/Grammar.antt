@@ -1,5 +1,4 @@
 pub mod CommonReads
 pub mod Intervals
 pub mod RangeReads
-pub mod Rows
 pub mod WordLoop

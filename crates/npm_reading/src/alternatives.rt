@@ -132,6 +132,7 @@ fn one<'a>(alloc: Global, interval: Interval<VersionRef<'a>>) -> Intervals<Versi
 /// Makes the intervals of the alternatives of a text those of its range: one without bounds where
 /// some alternative's has none, and `<0.0.0-0` where there is no interval.
 #[inline(always)]
+#[tactic(auto, using(crate::proofs::Grammar::RangeReads::ranged_one))]
 pub(crate) fn set_ranged<'a>(alloc: Global, found: &mut Intervals<VersionRef<'a>>)
     ensures { found.new.items ≡ ranged found.old.items }
 {

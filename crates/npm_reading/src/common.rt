@@ -208,6 +208,7 @@ fn push_read<'a>(
 // Adds the interval of the part at the front, and returns what follows it: one word, or two with a
 // space between them.
 #[inline(never)]
+#[tactic(auto, using(crate::proofs::Grammar::CommonReads::parts_found))]
 fn push_any<'a>(
     include: bool,
     text: &'a [u8],
@@ -231,6 +232,7 @@ fn push_any<'a>(
 
 // Adds the interval of the part at the front, and returns what follows it: one comparison, or two
 // with a space between them.
+#[tactic(auto, using(crate::proofs::Grammar::CommonReads::parts_found))]
 fn push_comparisons<'a>(
     include: bool,
     text: &'a [u8],

@@ -26,6 +26,7 @@ use std::alloc::Global;
 
 // What the alternative is with the word at the front, which is well-formed or ignored, and what
 // follows it and its whitespace. Says also whether it was ignored.
+#[tactic(auto, unfolding(npm_words::specs::Internal::Words::first_word))]
 fn with_word<'a>(
     loose: bool,
     include: bool,
@@ -100,6 +101,7 @@ pub(crate) fn alternative(loose: bool, include: bool, text: &[u8]) -> Option<Alt
 
 // Adds the interval of the alternative that a part of the text is, where its cuts meet, unless it
 // is lost. Returns whether this part or one before it is an alternative.
+#[tactic(auto, using(crate::proofs::Grammar::RangeReads::parts_added))]
 fn add_part<'a>(
     loose: bool,
     include: bool,

@@ -6,7 +6,7 @@ use Rattle.nodejs_semver.proofs.Common.{list_all, list_all-append, nat_tests, op
 use Rattle.nodejs_semver.proofs.{Common.{sym, take, trim, trim_is_middle, true, ℕ, ◌++◌, ◌-◌, ◌<◌, ◌∙◌, ◌∷◌, ◌≡◌, ◌≤◌, ◌⊎◌}, Everyday.Parts.HasBars}
 use Rattle.nodejs_semver.proofs.Everyday.{Parts.{bars-sound, behind-bars}, Texts.{compact-trim, cut-first, cut-last}, Words.{Compact, compact-spaced}}
 use Rattle.{nodejs_semver.{proofs.Everyday.Words.is_part_byte, specs.Text.Common.IsGap}, npm_reading.proofs.Grammar.Intervals.ranged-found}
-use Rattle.npm_reading.{proofs.Grammar.RangeReads.{found-cons, ranged_range}, specs.Internal.{Alternatives.ranged, Fronts.{AreIn, AreJoined}}}
+use Rattle.npm_reading.{proofs.Grammar.RangeReads.{found-both, found-one, ranged_range}, specs.Internal.{Alternatives.ranged, Fronts.{AreIn, AreJoined}}}
 use Rattle.npm_reading.specs.Internal.{Fronts.{AreParts, IsLeft, IsPartAt, IsSignAt, IsTried, IsWordAt, is_word_byte}, Reads.AreFound}
 use Rattle.{npm_reading.specs.Ranges.IsRangeIn, npm_words.proofs.Common.{AreAlternatives, AreRead, AreWords, BeginsWord, Comparison, IsPlaces}}
 use Rattle.npm_words.proofs.Common.{IsSignText, IsWord, are_normal, capped_partial, comparators_of, dotted_patch, dotted_place, first_as}
@@ -142,6 +142,8 @@ joined-read include text rest behind last s t None v e w are = tt
 joined-read include text rest behind last s t (Some b) v e w (open_above, open_below, same) =
     rw same (part-of_two include text rest behind last s t v e w open_above open_below)
 
+pub ruleset parts_found = (part-of_one)
+
 -- ---- a short partial
 
 no_place : (text : List ℕ) → is_over text ≡ true → (dotted_place false text ≡ None) × (dotted_patch false text ≡ None)
@@ -274,7 +276,8 @@ joined include text rest s p pieces others piece ss e t u f =
     let is_trim : IsTrim piece p.part = subst (λ (t : List ℕ). IsTrim piece t) t (trim_is_middle piece v.0) in
     let cs = comparators_of p.read in
     let k = f v.1 in
-    let found = found-cons include k.alternatives cs (interval precedence s) ss k.found (narrowed include cs s p.are.1) in
+    let found = found-both include (cs ∷ []) k.alternatives (option_to_list (interval precedence s)) ss
+    (found-one include cs (interval precedence s) (narrowed include cs s p.are.1)) k.found in
     let each = rw (strict-kept include p.part p.read p.is) at (Npm.next piece p.part others (is_lost p.read) cs k.alternatives
     (Npm.words p.part p.read (hyphen_none-strict include p.part p.read (trim-utf8 piece p.part v.0 is_trim) p.is) p.is) is_trim k.each) in
     rw e (record { alternatives = cs ∷ k.alternatives; each = each; valid = rw (p.are.0, k.valid) refl; found = found }, refl)

@@ -7,11 +7,11 @@ use Rattle.nodejs_semver.proofs.Common.{option_to_list, parts, precedence, refl,
 use Rattle.nodejs_semver.proofs.Common.{◌≤◌}
 use Rattle.npm_reading.proofs.Grammar.{Intervals.{narrowed-interval, range_accepts, ranged-found}, WordLoop.{AreWordsTo, first-none, valid-found}}
 use Rattle.npm_reading.{proofs.Grammar.WordLoop.{words-end, words-next, words-none}, specs.Internal.Alternatives.{NarrowedBy, ranged}}
-use Rattle.npm_reading.specs.Internal.Reads.{AddsPart, AreAllFound, AreFound, IsFound, IsStep, first_valid, valid_alternative, valid_alternatives}
+use Rattle.npm_reading.specs.Internal.Reads.{AddsPart, AreFound, IsFound, IsStep, first_valid, valid_alternative, valid_alternatives}
 use Rattle.npm_reading.specs.{Internal.Reads.{valid_range, words_of}, Ranges.IsRangeIn, Readings.{OfAccepted, ReadText}}
 use Rattle.{npm_reading.specs.declared.alternatives.Alternative.Alternative, npm_words.proofs.Common.{Comparison, Ended, HasAlternativesIn}}
 use Rattle.npm_words.proofs.Common.{IsNarrowed, alternative_of, alternatives_of, capped_in, capped_partial, first_word, hyphen_ends, hyphen_of}
-use Rattle.npm_words.proofs.Common.{is_free_lower, is_free_upper, is_lost, is_right, is_short_word, is_valid, kept, lower_of}
+use Rattle.npm_words.proofs.Common.{is_free_lower, is_free_upper, is_right, is_short_word, is_valid, kept, lower_of}
 use Rattle.npm_words.proofs.{Common.{signed_front_view, signed_word, upper_of, valid_one, words_of_all}, Grammar.AlternativeLaw.alternatives_are}
 use Rattle.npm_words.proofs.Grammar.{Hyphens.{both_capped, hyphen-capped}, Printed.{capped-valid, table-invalid, valid-same}}
 use Rattle.npm_words.specs.{Table.{Partial, table}, declared.words.Signed.Signed}
@@ -124,32 +124,29 @@ found-some include (Some c) a h = (c, refl, h)
 
 -- ---- one alternative more
 
-one-span : (include : Bool) (cs : List Comparison) (o : Option (Span VersionValue)) → IsNarrowed include cs o
-    → list_all (is_range_span (MAX_SAFE_INTEGER + 1)) (option_to_list o) ≡ true
-one-span include cs o h = rw h.is (cond_both (is_interval precedence h.span) (Some h.span) None
-    (λ m. list_all (is_range_span (MAX_SAFE_INTEGER + 1)) (option_to_list m) ≡ true) (λ i. rw (i, h.has.lower, h.has.upper) refl) (λ _. refl))
-
--- an alternative behind others, and before them
-found-append : (include : Bool) (ls : List (List Comparison)) (cs : List Comparison) (o : Option (Span VersionValue))
-    (before after : List (Span VersionValue)) → AreFound include ls before → IsNarrowed include cs o → after ≡ before ++ option_to_list o
-    → AreFound include (ls ++ cs ∷ []) after
-found-append include ls cs o before after h k e = record {
-  are = grind (arith, nat_tests, e, h.are, narrowed-interval include cs o k, append-nil, filter_map-append);
-  spans = rw (e, list_all-append (is_range_span (MAX_SAFE_INTEGER + 1)) before (option_to_list o), h.spans, one-span include cs o k) refl;
+-- one alternative, and the alternatives of two lists
+pub found-one : (include : Bool) (cs : List Comparison) (o : Option (Span VersionValue)) → IsNarrowed include cs o
+    → AreFound include (cs ∷ []) (option_to_list o)
+found-one include cs o h = record {
+  are = grind (arith, narrowed-interval include cs o h);
+  spans = rw h.is (cond_both (is_interval precedence h.span) (Some h.span) None (λ m. list_all (is_range_span (MAX_SAFE_INTEGER + 1)) (option_to_list m) ≡ true)
+      (λ i. rw (i, h.has.lower, h.has.upper) refl) (λ _. refl));
 }
 
-pub found-cons : (include : Bool) (ls : List (List Comparison)) (cs : List Comparison) (o : Option (Span VersionValue))
-    (others : List (Span VersionValue)) → AreFound include ls others → IsNarrowed include cs o
-    → AreFound include (cs ∷ ls) (option_to_list o ++ others)
-found-cons include ls cs o others h k = record {
-  are = grind (arith, nat_tests, h.are, narrowed-interval include cs o k);
-  spans = rw (list_all-append (is_range_span (MAX_SAFE_INTEGER + 1)) (option_to_list o) others, h.spans, one-span include cs o k) refl;
+pub found-both : (include : Bool) (ls ms : List (List Comparison)) (ss ts : List (Span VersionValue)) → AreFound include ls ss
+    → AreFound include ms ts → AreFound include (ls ++ ms) (ss ++ ts)
+found-both include ls ms ss ts h k = record {
+  are = grind (arith, h.are, k.are, filter_map-append);
+  spans = grind (arith, h.spans, k.spans, list_all-append);
 }
 
 pub part-added : (include : Bool) (o : Option (Bool × List Comparison)) (a : Alternative) (was : Bool) (before after : List (Span VersionValue))
     → IsFound include o (Some a) → a.is_lost ≡ false → after ≡ before ++ option_to_list a.interval → AddsPart include o was true before after
-part-added include (Some (false, cs)) a was before after h l e = (refl, λ ls k. found-append include ls cs a.interval before after k h.0 e)
+part-added include (Some (false, cs)) a was before after h l e =
+    (refl, λ ls k. rw e (found-both include ls (cs ∷ []) before (option_to_list a.interval) k (found-one include cs a.interval h.0)))
 part-added include o a was before after h l e = grind arith
+
+pub ruleset parts_added = (part-added, append-nil)
 
 -- ---- the alternatives, up to a rest of the text
 
@@ -196,24 +193,10 @@ read-part loose include text was is found after rest part behind h e a = go _ re
       some = k.0 ∙ grind (arith, nat_tests, common_steps);
     }
 
--- the same of a call that rejects the part
-pub refused-weaker : {A E : Type 0} {P Q : Type 0} (r : Result A (Failure E)) → (P → Q) → RefusedOnlyIf r P → RefusedOnlyIf r Q
-refused-weaker r f k = grind (arith, f)
-
-pub read-refused : (loose : Bool) {A E : Type 0} (r : Result A (Failure E)) (include : Bool) (text : List ℕ) (was : Bool)
-    (found : List (Span VersionValue)) (rest part : List ℕ) (behind : Option (List ℕ)) → AreReadTo loose include text was found (Some rest)
-    → part ∷ later_parts behind ≡ parts rest → RefusedOnlyIf r (valid_alternative loose include part ≡ None)
-    → RefusedOnlyIf r (valid_range loose include text ≡ None)
-read-refused loose r include text was found rest part behind h e = refused-weaker r (λ k. rw (h.same, rest-step loose include rest part behind None e k) refl)
-
 pub all-read : (loose include is_some : Bool) (text : List ℕ) (found : List (Span VersionValue)) (h : AreReadTo loose include text is_some found None)
     → valid_range loose include text ≡ (if is_some then Some h.read else None)
 unfolding valid_alternatives
 all-read loose include is_some text found h = rw (h.same, append-nil h.read, h.some) refl
-
-pub read-all : (loose include : Bool) (text : List ℕ) (found : List (Span VersionValue)) → AreReadTo loose include text true found None
-    → AreAllFound include (valid_range loose include text) found
-read-all loose include text found h = rw (all-read loose include true text found h) h.are
 
 -- ---- the range of a text
 
@@ -238,27 +221,33 @@ none-read loose include text u h ls has =
     let k = (alternatives_are loose MAX_SAFE_INTEGER include text ls u).0 has in
     grind (arith, nat_tests, common_steps, all-valid)
 
+-- the same of a call that rejects a part
+refused-weaker : {A E : Type 0} {P Q : Type 0} (r : Result A (Failure E)) → (P → Q) → RefusedOnlyIf r P → RefusedOnlyIf r Q
+refused-weaker r f k = grind (arith, f)
+
+pub read-refused : (loose : Bool) {A E : Type 0} (r : Result A (Failure E)) (include : Bool) (text : List ℕ) (was : Bool)
+    (found : List (Span VersionValue)) (rest part : List ℕ) (behind : Option (List ℕ)) → IsUtf8 text
+    → AreReadTo loose include text was found (Some rest) → part ∷ later_parts behind ≡ parts rest
+    → RefusedOnlyIf r (valid_alternative loose include part ≡ None)
+    → RefusedOnlyIf r (NoValue (HasAlternativesIn loose MAX_SAFE_INTEGER include text))
+read-refused loose r include text was found rest part behind u h e =
+    refused-weaker r (λ k. none-read loose include text u (rw (h.same, rest-step loose include rest part behind None e k) refl))
+
 has-read : (loose include : Bool) (text : List ℕ) (all : List (List Comparison)) → IsUtf8 text
     → valid_range loose include text ≡ Some all → HasAlternativesIn loose MAX_SAFE_INTEGER include text all
 has-read loose include text all u h = grind (arith, nat_tests, common_steps, cond_some, not, all-valid, not-true, alternatives_are)
 
 pub range-read : (loose include : Bool) (text : List ℕ) (found range : List (Span VersionValue)) → IsUtf8 text
-    → AreAllFound include (valid_range loose include text) found → range ≡ ranged found
-    → IsRangeIn loose MAX_SAFE_INTEGER include text range
-range-read loose include text found range u h a = go (valid_range loose include text) refl h
-  where
-    go : (o : Option (List (List Comparison))) → valid_range loose include text ≡ o → AreAllFound include o found
-        → IsRangeIn loose MAX_SAFE_INTEGER include text range
-    go None e k = absurd k
-    go (Some all) e k = record { alternatives = all; has = has-read loose include text all u e; is = a ∙ ranged-found include all found k }
+    → AreReadTo loose include text true found None → range ≡ ranged found → IsRangeIn loose MAX_SAFE_INTEGER include text range
+range-read loose include text found range u h a = record {
+  alternatives = h.read;
+  has = has-read loose include text h.read u (all-read loose include true text found h);
+  is = a ∙ ranged-found include h.read found h.are;
+}
 
 pub memory-pieces : {A E : Type 0} (r : Result A (Failure E)) (text : List ℕ) → MemoryOnlyIf r (1 < length (parts text))
     → MemoryOnlyIf r ((pieces : List (List ℕ)) → IsCutAtBars text pieces → 1 < length pieces)
 memory-pieces r text k = grind (arith, nat_tests, common_steps, bars_once)
-
-pub all-spans : (loose include : Bool) (text : List ℕ) (found : List (Span VersionValue)) → AreAllFound include (valid_range loose include text) found
-    → list_all (is_range_span (MAX_SAFE_INTEGER + 1)) found ≡ true
-all-spans loose include text found h = grind (arith, nat_tests, common_steps)
 
 pub of_accepted : {Holds : (VersionValue → Bool) → Type 0} (r : ReadText) (range : List (Span VersionValue))
     → IsRangeIn r.reading.loose MAX_SAFE_INTEGER r.reading.include_prerelease r.text range

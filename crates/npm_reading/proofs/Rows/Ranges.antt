@@ -1,7 +1,7 @@
 -- Worked rows: the intervals of alternatives, and the range of a text.
 use Rattle.nodejs_semver.proofs.Common.{After, Before, List, VersionValue, [], codes, false, refl, release_value, true, ℕ, ◌∷◌, ◌≡◌}
-use Rattle.{nodejs_semver.specs.Ranges.View.any_version, npm_reading.proofs.{Alike.Texts.plain-has, Rows.Alike.{band, limit, row-hyphen, row-words}}}
-use Rattle.{npm_reading.specs.Ranges.{IsRangeIn, intervals_in}, npm_words.proofs.Common.{Comparison, above, at_least, at_most, below, equal, from}}
+use Rattle.nodejs_semver.specs.Ranges.View.{any_version}
+use Rattle.{npm_reading.specs.Ranges.intervals_in, npm_words.proofs.Common.{Comparison, above, at_least, at_most, below, equal, from}}
 use Rattle.{npm_words.{proofs.Common.under, specs.Table.{lowest, unbuilt}}, semver_core.specs.Text.{Comparators.Comparator, Identifiers.AlphaNumeric}}
 use Rattle.std.specs.Fmt.{digits}
 use Rattle.semver_core.specs.Values.Spans as Spans
@@ -50,12 +50,3 @@ row-uncounted = refl
 
 row-counted : intervals_in true ((by at_least (bare 0) ∷ []) ∷ []) ≡ Spans.>= (bare 0) ∷ []
 row-counted = refl
-
--- the ranges of two texts: the second alternative of the first text is empty
-row-any : IsRangeIn false limit false (codes "^1  ||>2   < 4 ~v3 ||") any_version
-unfolding digits
-row-any = record { alternatives = _; has = plain-has _ _ _ row-words; is = refl }
-
-row-band : IsRangeIn false limit false (codes "1  - v3") (band 1 4 ∷ [])
-unfolding digits
-row-band = record { alternatives = _; has = plain-has _ _ _ row-hyphen; is = refl }

@@ -81,8 +81,3 @@ some_only all = if not (is_empty all) then Some all else None
 
 abbrev pub valid_range : Bool → Bool → List ℕ → Option (List (List Comparison))
 valid_range loose include text = valid_alternatives loose include (parts text) >>? λ all. some_only all
-
--- the intervals of all alternatives
-abbrev pub AreAllFound : Bool → Option (List (List Comparison)) → List (Span VersionValue) → Type 0
-AreAllFound include None found = ⊥
-AreAllFound include (Some alternatives) found = AreFound include alternatives found

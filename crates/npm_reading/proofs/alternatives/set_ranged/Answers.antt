@@ -1,10 +1,7 @@
 use Rattle.nodejs_semver.proofs.Common.{arith, common_steps, false, list_any, rules, sym, tests, ◌∙◌, ◌≡◌}
-use Rattle.{npm_reading.proofs.Grammar.RangeReads.ranged_one, npm_words.specs.Internal.Meaning.is_unbounded}
+use Rattle.{npm_words.specs.Internal.Meaning.is_unbounded}
 use Rattle.std.proofs.lemmas.Iterator.{Search.any_from_yields_List, YieldsList-from_slice}
 use Rattle.npm_reading.proofs.alternatives.set_ranged.Goals as goal
-
-pub returns-then-len-eq1 : goal.returns-then-len-eq1
-returns-then-len-eq1 c = ranged_one c.args.found.now.items (first_of (search rules, grind (arith, common_steps)))
 
 pub returns-else-is_empty : goal.returns-else-is_empty
 returns-else-is_empty c =

@@ -8,16 +8,8 @@ pub returns-then-loose : goal.returns-then-loose
 unfolding first_word
 returns-then-loose c = grind (arith, common_steps, append-nil)
 
-pub returns-in_default : goal.returns-in_default
-unfolding first_word
-returns-in_default c = grind (arith, common_steps)
-
 pub meet-requires : goal.meet-requires
 meet-requires c = word-normal c.args.loose c.args.text.now (signed_view c.in-Some.word, c.in-Some.behind.now) c.in-Some.ensures
-
-pub returns-then-not-is_short : goal.returns-then-not-is_short
-unfolding first_word
-returns-then-not-is_short c = grind (arith, common_steps)
 
 pub returns-in_err-all : goal.returns-in_err-all
 returns-in_err-all c = grind (arith, common_steps, step-invalid)

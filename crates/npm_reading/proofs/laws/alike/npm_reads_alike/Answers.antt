@@ -1,5 +1,5 @@
-use Rattle.npm_reading.proofs.Alike.Texts as law
+use Rattle.npm_reading.proofs.Alike as law
 use Rattle.npm_reading.proofs.laws.alike.npm_reads_alike.Goals as goal
 
 pub returns : goal.returns
-returns c = record { here = law.plain-read; there = law.plain-has; same = law.plain-same }
+returns c = record { same = law.same-accepted }
