@@ -34,7 +34,10 @@ mod range;
 pub mod readers;
 
 pub use crate::range::best::newest_release;
-pub use crate::range::{OutsideDirection, Range, RangeError, RangeOf, RangeReader, RangeRef};
+pub use crate::range::gate::interval_accepts;
+pub use crate::range::{
+    OutsideDirection, Range, RangeError, RangeOf, RangeReader, RangeRef, word_field,
+};
 pub use semver_core::{
     Accepts, AcceptsRef, Failure, Identifier, IdentifierBase, IdentifierRef, IdentifierRefs,
     IncrementError, MAX_LENGTH, MAX_SAFE_INTEGER, NegativeNumber, NextIds, NextVersion,

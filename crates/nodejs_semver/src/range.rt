@@ -23,7 +23,7 @@ mod unions;
 
 use crate::Allocated;
 pub use crate::range::outside::{OutsideDirection, RangeError};
-pub use crate::range::parse::RangeReader;
+pub use crate::range::parse::{RangeReader, word_field};
 use semver_core::cuts::{Interval, Point};
 use semver_core::{Version, VersionPoint, VersionRef};
 pub(crate) use semver_pieces::Intervals;

@@ -9,7 +9,9 @@ mod table;
 mod words;
 
 pub use crate::readers::fast::range_fast;
-pub(crate) use crate::readers::fast::{Alone, InLines, Place, read_common, read_front};
+pub(crate) use crate::readers::fast::{
+    Alone, InLines, Place, read_common, read_front, signed_front,
+};
 pub(crate) use crate::readers::intervals::word_front;
 pub(crate) use crate::readers::loose::read_any;
 pub use crate::readers::loose::{is_blank, range_loose};

@@ -6,9 +6,10 @@ ghost use Rattle.std.specs.Prelude.{slice_index};
 ghost use Rattle.std.specs.List.{All};
 ghost use Rattle.memchr.specs.Find.{is_byte2};
 ghost use Rattle.semver_answers.specs.Internal.Ahead.{Cuts, HasFeed, IsNext};
-ghost use Rattle.semver_answers.specs.Internal.Results.{ReadsRange, ReadsVersion};
+ghost use Rattle.semver_answers.specs.Internal.Results.{ReadsRange, ReadsVersion, ReadsWord};
 
 use memchr::{memchr, memchr2};
+use nodejs_semver::cuts::Interval;
 use nodejs_semver::{Failure, MAX_LENGTH, RangeReader, RangeRef, SemverError, VersionRef};
 
 /// What stands behind a field.
@@ -137,5 +138,20 @@ pub(crate) fn range_field<'r, 't>(
     match mark_at(text, end) {
         Some(behind) => (range, behind),
         None => unreachable!(),
+    }
+}
+
+/// The interval of the first field, where it is one word that a caret or a tilde begins, and the
+/// fields behind it. It is kept nowhere.
+#[inline(always)]
+#[tactic(auto, using(crate::proofs::Firsts::words))]
+pub(crate) fn word_field(text: &str) -> Option<(Interval<VersionRef<'_>>, &str)>
+    requires { HasFeed text.now }
+    ensures { IfSome result (λ found. ReadsWord text.now found.0 found.1) }
+{
+    let (interval, end) = nodejs_semver::word_field(text)?;
+    match mark_at(text, end) {
+        Some(Behind::Fields(rest)) => Some((interval, rest)),
+        _ => None,
     }
 }

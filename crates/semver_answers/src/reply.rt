@@ -4,7 +4,7 @@
 // not inlined, so that a line pays for the locals of its own kind alone; what is said of the values
 // that were read stands in the method `reply`.
 
-ghost use Rattle.std.specs.Prelude.{◌≡◌, ◌++◌, ◌∷◌, IfOk, OnErr, OnOk, Some, codes};
+ghost use Rattle.std.specs.Prelude.{◌≡◌, ◌++◌, ◌∷◌, [], IfOk, OnErr, OnOk, Some, codes};
 ghost use Rattle.semver_core.specs.Increments.Table.{answer_of_inc};
 ghost use Rattle.semver_answers.specs.Answers.{IsAnswer};
 ghost use Rattle.semver_answers.specs.Commands.{RangeReply, RangesReply};
@@ -21,7 +21,7 @@ ghost use Rattle.semver_answers.specs.Names.{next_text};
 use crate::best::best_of;
 use crate::command::Command;
 use crate::fault::Fault;
-use crate::fields::{Behind, range_field, version_field};
+use crate::fields::{Behind, range_field, version_field, word_field};
 use crate::names::{
     difference_line, put_borrowed, put_found, put_next, put_order, put_printed, put_range_line,
     put_truth,
@@ -32,7 +32,8 @@ use crate::parts::{Combination, put_combined};
 use crate::question::{
     AboutBest, AboutMatch, AboutRange, AboutRanges, AboutVersion, AboutVersions,
 };
-use nodejs_semver::{Failure, IdentifierBase, RangeReader, RangeRef, VersionRef};
+use nodejs_semver::cuts::Interval;
+use nodejs_semver::{Failure, IdentifierBase, RangeReader, RangeRef, VersionRef, interval_accepts};
 use std::alloc::{AllocError, Global};
 
 /// The ranges of a line. The next line is read into the same ones, so that their memory is used
@@ -239,6 +240,14 @@ fn on_match<'t>(
         (AnswersFields (match_word asked ∷ fields_ahead texts.now)) }
     ensures next { IfOk result (IsNext texts.now) }
 {
+    if let Some((interval, rest)) = word_field(texts) {
+        let (version, behind) = version_field(rest);
+        let Behind::Lines(next) = behind else {
+            return Err(Failure::Refused(Fault::BadLine));
+        };
+        let version = version_of(&version)?;
+        return told(put_truth(asked.reply_in(&interval, version), output), next);
+    }
     let (read, behind) = range_field(texts, range);
     let Behind::Fields(rest) = behind else {
         return Err(Failure::Refused(Fault::BadLine));
@@ -405,5 +414,14 @@ impl AboutMatch {
                 Err(_) => unreachable!(),
             },
         }
+    }
+
+    // `reply` where the range is of one interval.
+    #[inline(always)]
+    fn reply_in(self, interval: &Interval<VersionRef<'_>>, v: &VersionRef<'_>) -> bool
+        requires { IsTwo self }
+        ensures { result ≡ matches self (interval.now ∷ []) v.now }
+    {
+        interval_accepts(interval, v, matches!(self, AboutMatch::Pre))
     }
 }

@@ -59,6 +59,7 @@ pub fn after_bars(text: &[u8]) -> Option<&[u8]>
     ensures { rest_view result ≡ Spec.after_bars text.now }
 {
     match text {
+        [b' ', b'|', b'|', b' ', rest @ ..] => Some(rest),
         [b' ', b'|', b'|', rest @ ..] | [b'|', b'|', rest @ ..] => Some(after_gap(rest)),
         _ => None,
     }

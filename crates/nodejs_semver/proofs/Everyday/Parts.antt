@@ -4,7 +4,7 @@ use Rattle.nodejs_semver.proofs.Common.{Span, Unbounded, VersionValue, Word, [],
 use Rattle.nodejs_semver.proofs.Common.{begins_second, below, bind_some, cases_Bool, common_steps, comparison_front, comparisons_front, drop}
 use Rattle.nodejs_semver.proofs.Common.{eqb-true, false, has_bars, hyphen, if_any, if◌then◌else◌, inl, inr, interval, is_sign, length}
 use Rattle.nodejs_semver.proofs.Common.{Bool, IsUtf8, all_weaker, list_all, list_all-append, list_any, take, ◌-◌, ◌||◌}
-use Rattle.std.proofs.{Math.Seq.take-append_seam, lemmas.Str.{Ascii.{IsAscii-cons, IsAscii-nil}, IsUtf8-from_ascii}}
+use Rattle.std.proofs.{Math.Seq.{drop-append_seam, take-append_seam}, lemmas.Str.{Ascii.{IsAscii-cons, IsAscii-nil}, IsUtf8-from_ascii}}
 use Rattle.std.specs.Str.{IsAscii}
 use Rattle.nodejs_semver.proofs.Common.{length-append, meet, nat_tests, passed, plain, precedence, refl, same_Some, suc, table, tilde, tilde_sign}
 use Rattle.nodejs_semver.proofs.{Common.{true, word_read, zero, ℕ, ◌++◌, ◌<◌, ◌==◌, ◌↔◌, ◌∙◌, ◌∷◌, ◌≡◌, ◌≤◌}, Everyday.Texts.list-some}
@@ -14,7 +14,7 @@ use Rattle.nodejs_semver.specs.Internal.CommonFronts.{bare_front, begins_dash, b
 use Rattle.nodejs_semver.specs.Internal.{CommonFronts.{part_front, part_read, partials_front, tilde_front}, Words.comparator_at}
 use Rattle.nodejs_semver.specs.Text.Common.{IsCommonPart, IsCommonRange, IsCommonWord, IsComparison, IsGap, caret_word, compare_word, comparison}
 use Rattle.nodejs_semver.specs.Text.Common.{hyphen_word, more_parts, one_part, one_word, plain_word, tilde_greater_word, tilde_word, two_comparisons}
-use Rattle.{nodejs_semver.specs.Text.WordText.{above_sign, below_sign}, semver_core.proofs.Reading.Bytes.{Stop, begins-on, begins_component}}
+use Rattle.{nodejs_semver.specs.Text.WordText.{above_sign, below_sign, caret}, semver_core.proofs.Reading.Bytes.{Stop, begins-on, begins_component, is_component_byte}}
 use Rattle.semver_core.{proofs.Reading.Bytes.{is_solid, quiet-before, stop-bar, stop-nil, stop-space}, specs.Failures.NoValue}
 use Rattle.semver_core.specs.{Internal.{Fronts.after_byte, Parts.{after_bars, after_gap}, Reading.◌>>?◌}, Text.Comparators.at_least}
 use Rattle.semver_core.proofs.Reading.Numbers.{number-read, number_first}
@@ -224,6 +224,20 @@ unfolding part_front
 part-sound limit [] r h = cc h
 part-sound limit (b ∷ rest) r h =
     grind (arith, nat_tests, comparisons-sound limit (b ∷ rest) r, partials-sound limit (b ∷ rest), caret-sound limit rest, tilde-sound limit rest, word-sound limit (126 ∷ rest) (tilde_front limit rest) r (tilde-sound limit rest), word-sound limit (94 ∷ rest) (caret_front limit rest) r (caret-sound limit rest), word-sound limit (b ∷ rest) (partials_front limit (b ∷ rest)) r (partials-sound limit (b ∷ rest)), eqb-true)
+
+-- a caret, or a tilde, with a partial behind it
+pub caret-part : (limit : ℕ) (text more : List ℕ) (p : Partial) (s : Span VersionValue) → bare_front limit text ≡ Some (p, more)
+    → table limit (caret p) ≡ Some s → part_front limit (94 ∷ text) ≡ Some (s, more)
+unfolding part_front caret_front
+caret-part limit text more p s read bounds = rw (read, bounds) refl
+
+pub tilde-part : (limit : ℕ) (text more : List ℕ) (p : Partial) (s : Span VersionValue) → bare_front limit text ≡ Some (p, more)
+    → table limit (tilde false p) ≡ Some s → part_front limit (126 ∷ text) ≡ Some (s, more)
+unfolding part_front tilde_front
+tilde-part limit text more p s read bounds =
+    let b = bare-sound limit text p more read in
+    let begins : begins_component text ≡ true = rw b.1 (begins-on is_component_byte b.0 more (components-begin limit b.0 p b.2)) in
+    rw (no-greater text begins, read, bounds) refl
 
 -- ---- the bars between parts
 
@@ -525,3 +539,13 @@ bytes-ascii (b ∷ text) h = grind (arith, nat_tests, IsAscii-cons, bytes-ascii 
 
 pub parts-utf8 : (limit : ℕ) (text : List ℕ) (list : List (Span VersionValue)) → AreCommonParts limit text list → IsUtf8 text
 parts-utf8 limit text list h = IsUtf8-from_ascii text (bytes-ascii text (range-bytes limit text list h))
+
+-- a part with the end of a field behind it
+pub part-taken : (limit : ℕ) (text : List ℕ) (s : Span VersionValue) (rest : List ℕ) → part_front limit text ≡ Some (s, rest)
+    → (length rest ≤ length text) × AreCommonParts limit (take (length text - length rest) text) (s ∷ [])
+    × (drop (length text - length rest) text ≡ rest)
+part-taken limit text s rest h =
+    let p = last-sound limit text s rest h in
+    let long : length rest ≤ length text = omega (arith, ap length p.1, length-append p.0 rest) in
+    let n : length text - length rest ≡ length p.0 = omega (arith, ap length p.1, length-append p.0 rest) in
+    (long, rw (taken-is text p.0 rest p.1) p.2, ap (λ k. drop k text) n ∙ (ap (drop (length p.0)) p.1 ∙ drop-append_seam p.0 rest))

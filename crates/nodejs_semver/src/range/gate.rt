@@ -1,6 +1,6 @@
 // Which versions a range accepts.
 
-ghost use Rattle.std.specs.Prelude.{◌&&◌, ◌||◌, ◌≡◌, false};
+ghost use Rattle.std.specs.Prelude.{◌&&◌, ◌||◌, ◌∷◌, ◌≡◌, [], false};
 ghost use Rattle.nodejs_semver.specs.Words.{accepts, bound_of, holds, is_past, IsRange, IsTrue};
 ghost use Rattle.nodejs_semver.specs.Words.{lets_in, list_holds, lower_cut, MAX_SAFE_INTEGER};
 ghost use Rattle.nodejs_semver.specs.Words.{names, precedence, span_of, spans_of, true, upper_cut};
@@ -91,6 +91,19 @@ fn satisfied<V: VersionPoint, W: Versioned>(intervals: &[Interval<V>], version: 
     intervals
         .iter()
         .any(|interval| accepts_one(interval, version, false))
+}
+
+/// Whether a range of this interval alone accepts this version, as `satisfies_with_prerelease`
+/// says.
+#[inline(always)]
+pub fn interval_accepts(
+    interval: &Interval<VersionRef<'_>>,
+    version: &VersionRef<'_>,
+    include_prerelease: bool,
+) -> bool
+    ensures { result ≡ accepts (interval.now ∷ []) version.now include_prerelease }
+{
+    accepts_one(interval, version, include_prerelease)
 }
 
 // Whether the interval holds the version and lets it in.

@@ -1,7 +1,7 @@
 // Ranges are read from their texts.
 
-ghost use Rattle.std.specs.Prelude.{◌<◌, ◌==◌, ◌||◌, ◌↔◌, ◌≡◌, ◌≤◌, [], drop, IfOk, IfSome, IsTrue};
-ghost use Rattle.std.specs.Prelude.{take};
+ghost use Rattle.std.specs.Prelude.{◌∷◌, ◌<◌, ◌==◌, ◌||◌, ◌↔◌, ◌≡◌, ◌≤◌, [], drop, take};
+ghost use Rattle.std.specs.Prelude.{IfOk, IfSome, IsTrue};
 ghost use Rattle.nodejs_semver.specs.Words.{accepts, AreCommonParts, denotes, ends_field};
 ghost use Rattle.nodejs_semver.specs.Words.{false, has_bars, IsFalse, IsRange, length, List};
 ghost use Rattle.nodejs_semver.specs.Words.{list_any, Means, MemoryOnlyIf, OnOk};
@@ -10,7 +10,7 @@ ghost use Rattle.nodejs_semver.specs.Words.{VersionValue, Writes};
 ghost use Rattle.smallvec.specs.SmallVec.{HasRoomFor};
 
 use crate::range::owned::owned_intervals;
-use crate::readers::{Alone, InLines, Place, read_any, read_common, read_front};
+use crate::readers::{Alone, InLines, Place, read_any, read_common, read_front, signed_front};
 use crate::{Range, RangeOf, RangeRef};
 use memchr::{memchr2, memchr3};
 use semver_core::cuts::Interval;
@@ -123,6 +123,26 @@ impl<'a> RangeRef<'a> {
         }
         Ok(RangeOf { intervals })
     }
+}
+
+/// Reads the range of the first field of a text where it is one word, `^` or `~` with a partial
+/// such as `1.2.3` behind it, and another field follows. Returns its interval, which is kept
+/// nowhere, and the place where the field ends: of `^1.2.3;1.3.0` they are that of `>=1.2.3
+/// <2.0.0-0` and 6. `None` is returned for others, of which most are ranges too (see
+/// `RangeReader`).
+#[inline(always)]
+pub fn word_field(text: &str) -> Option<(Interval<VersionRef<'_>>, usize)>
+    // The field ends at the place, which is not the end of the text.
+    ensures place { IfSome result (λ found. found.1 < length text.now) }
+    ensures plain { IfSome result (λ found.
+        list_any (λ b. b == 59 || b == 10) (take found.1 text.now) ≡ false) }
+    ensures ends { IfSome result (λ found. ends_field (drop found.1 text.now) ≡ true) }
+    // The interval is the only one that the field means.
+    ensures means { IfSome result (λ found.
+        Means MAX_SAFE_INTEGER (take found.1 text.now) (found.0 ∷ [])) }
+{
+    let (interval, rest) = signed_front(text.as_bytes())?;
+    Some((interval, text.len() - rest.len()))
 }
 
 /// Memory that the ranges of fields are read into, one after another: it is kept from one range to

@@ -1,10 +1,10 @@
 // The reader of common range texts, in one pass from the left.
 
 ghost use Rattle.nodejs_semver.specs.Internal.CommonFronts as Spec;
-ghost use Rattle.std.specs.Prelude.{◌≡◌, ◌≤◌, ◌||◌, ◌⊎◌, [], IfNone, IfOk, IfSome};
+ghost use Rattle.std.specs.Prelude.{◌<◌, ◌≡◌, ◌≤◌, ◌||◌, ◌⊎◌, [], IfNone, IfOk, IfSome};
 ghost use Rattle.nodejs_semver.specs.Internal.Fronts.{is_wildcard};
 ghost use Rattle.nodejs_semver.specs.Words.{AreCommonParts, begins, bounds_front_view, bounds_view};
-ghost use Rattle.nodejs_semver.specs.Words.{common_fronts};
+ghost use Rattle.nodejs_semver.specs.Words.{common_fronts, ends_field, length};
 ghost use Rattle.nodejs_semver.specs.Words.{has_bars, hyphen, is_ascii_digit, is_interval};
 ghost use Rattle.nodejs_semver.specs.Words.{IsCommonRange, table};
 ghost use Rattle.nodejs_semver.specs.Words.{IsFalse, IsTrue, List, MAX_SAFE_INTEGER, Means};
@@ -14,7 +14,7 @@ ghost use Rattle.nodejs_semver.specs.Words.{table_view, TakesMemory, true, Versi
 
 use crate::range::owned::owned_range;
 use crate::readers::intervals::{between, ordered};
-use crate::readers::syntax::Partial;
+use crate::readers::syntax::{Partial, Sign};
 use crate::readers::{partial, table, words};
 use crate::{Allocated, Range, RangeRef};
 use semver_core::cuts::{Bound, Interval};
@@ -310,6 +310,28 @@ fn push_part<'a, P: Place, S: Found<'a>>(
         [b'^', rest @ ..] => push_caret::<P, S>(rest, found),
         _ => push_partials::<P, S>(text, found),
     }
+}
+
+/// The interval of the caret or tilde at the front and the partial behind it, and what follows the
+/// partial, which begins with `;`. `None` may be returned for others.
+#[inline(always)]
+pub(crate) fn signed_front(text: &[u8]) -> Option<(Interval<VersionRef<'_>>, &[u8])>
+    ensures part { IfSome result (λ found.
+        Spec.part_front MAX_SAFE_INTEGER text.now ≡ Some (found.0, found.1.now)) }
+    ensures more { IfSome result (λ found. 0 < length found.1.now) }
+    ensures ends { IfSome result (λ found. ends_field found.1.now ≡ true) }
+{
+    let (sign, behind) = match text {
+        [b'^', behind @ ..] => (Sign::Caret, behind),
+        [b'~', behind @ ..] => (Sign::Tilde(false), behind),
+        _ => return None,
+    };
+    let (partial, rest) = InLines::bare_front(behind)?;
+    if !matches!(rest, [b';', ..]) {
+        return None;
+    }
+    let bounds = table::signed(sign, &partial)?;
+    Some((ordered(bounds), rest))
 }
 
 /// Adds the intervals of the common parts at the front to an empty list, one for each, and returns

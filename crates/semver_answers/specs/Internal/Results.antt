@@ -1,5 +1,5 @@
 -- For proofs. What the results of reading a question's texts, and of replying to it, say.
-use Rattle.std.specs.Prelude.{◌≡◌, ◌<◌, ◌++◌, ℕ, List, [], Option}
+use Rattle.std.specs.Prelude.{◌≡◌, ◌<◌, ◌++◌, ◌∷◌, ℕ, List, [], Option}
 use Rattle.std.specs.Prelude.{Result, Ok, Err, IfErr, IfOk, length}
 use Rattle.std.specs.Prelude.{false, ⊤}
 use Rattle.std.specs.Borrow.{Bor}
@@ -23,6 +23,7 @@ use Rattle.semver_answers.specs.Names.{fault_word}
 use Rattle.semver_answers.specs.Replies.{AreVersionsOf}
 use Rattle.semver_answers.specs.declared.fault.Fault.{Fault}
 use Rattle.semver_answers.specs.declared.fields.Behind.{Behind}
+use Rattle.semver_answers.specs.declared.fields.Behind.TheVariants.{Fields}
 use Rattle.semver_answers.specs.declared.fault.Fault.TheVariants.{BadLine}
 use Rattle.semver_answers.specs.declared.question.AboutBest.{AboutBest}
 use Rattle.semver_answers.specs.declared.question.AboutBest.TheVariants.{Max, Min}
@@ -71,6 +72,12 @@ pub record ReadsRange (text : List ℕ) (range : Result (Bor (List (Span Version
   pub field : List ℕ
   pub cuts : Cuts text field behind
   pub parsed : ParsesRange field range
+
+-- the first field was read as this interval, and these fields stand behind it
+pub record ReadsWord (text : List ℕ) (interval : Span VersionValue) (rest : Bor (List ℕ)) : Type 0 where
+  pub field : List ℕ
+  pub cuts : Cuts text field (Fields rest)
+  pub means : Means MAX_SAFE_INTEGER field (interval ∷ [])
 
 -- the answer to a line of these fields
 pub data AnswersFields (line : List (List ℕ)) (answer : List ℕ) : Type 0 where
