@@ -1,7 +1,10 @@
 // Ranges that borrow their text.
 
 use super::{hash_of, is_same, prints};
-use nodejs_semver::{OutsideDirection, Range, RangeRef, SemverError, Version, VersionRef};
+use nodejs_semver::{
+    OutsideDirection, Range, RangeReader, RangeRef, SemverError, Version, VersionRef,
+    interval_accepts, word_field,
+};
 use std::alloc::Global;
 
 // A range text and its printed text.
@@ -153,4 +156,62 @@ fn texts_are_sets<'a>(alloc: Global, one: &'a str, other: &'a str) -> bool {
 #[test]
 fn borrowed_ranges_are_sets(rt: HostRuntime) {
     assert!(rt; texts_are_sets(rt.alloc(), "^1.2", "1.5.0"));
+}
+
+// Whether the first field is a word whose interval accepts the version only with pre-releases
+// included, and ends at this place.
+fn is_word_field(fields: &str, end: usize, version: &VersionRef<'_>) -> bool {
+    match word_field(fields) {
+        Some((interval, place)) => {
+            place == end
+                && interval_accepts(&interval, version, true)
+                && !interval_accepts(&interval, version, false)
+        }
+        None => false,
+    }
+}
+
+#[test]
+fn the_word_of_the_first_field(rt: HostRuntime) -> Result<(), SemverError> {
+    let version = VersionRef::parse("1.3.0-b")?;
+    assert!(rt; is_word_field("^1.2.3;1.3.0-b\n", 6, &version));
+    assert!(rt; is_word_field("~1.2.3-a;1.3.0\n", 8, &VersionRef::parse("1.2.4-a")?));
+    assert!(rt; is_word_field("^1;", 2, &version));
+    assert!(rt; word_field("^1.2.3\n").is_none());
+    assert!(rt; word_field("^1.2.3 || 3;1.3.0\n").is_none());
+    assert!(rt; word_field(">=1;1.3.0\n").is_none());
+    Ok(())
+}
+
+// Whether the first field is a range that prints so, and ends at this place.
+fn reads_field<'a>(
+    alloc: Global,
+    reader: &mut RangeReader<'a>,
+    fields: &'a str,
+    printed: &str,
+    end: usize,
+) -> bool {
+    match reader.read_field(fields) {
+        (Ok(range), place) => place == end && prints(alloc, range, printed),
+        (Err(_), _) => false,
+    }
+}
+
+#[test]
+fn ranges_of_fields_in_the_same_memory(rt: HostRuntime) {
+    let alloc = rt.alloc();
+    let mut reader = RangeReader::new(alloc);
+    let fields = "^1 || foo 2 || >=3;1.0.0\n";
+    assert!(rt;
+        reads_field(
+            alloc,
+            &mut reader,
+            fields,
+            ">=1.0.0 <2.0.0-0||>=2.0.0 <3.0.0-0||>=3.0.0",
+            18
+        )
+    );
+    assert!(rt; reads_field(alloc, &mut reader, "~1.2\n", ">=1.2.0 <1.3.0-0", 4));
+    assert!(rt; reader.read_field("latest;1.0.0").0.is_err());
+    assert!(rt; reads_field(alloc, &mut reader, "", "*", 0));
 }
